@@ -1,0 +1,4 @@
+pub mod Rules
+pub mod ChoiceLaws
+pub mod SumLaws
+pub mod WordLaws

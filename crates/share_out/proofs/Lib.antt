@@ -1,0 +1,9 @@
+pub mod Examples
+pub mod NumberLaws
+pub mod PassLaws
+pub mod TurnLaws
+pub mod RunLaws
+pub mod HolderLaws
+pub mod Promise
+pub mod LoopLaws
+pub mod OutcomeLaws

@@ -1,0 +1,66 @@
+-- `claims_total` meets its contract: after i turns the total is that of the first i claims.
+use Prim.Native.Nat.{_+_, _-_, _*_, _≤_}
+use mathlib.Core.Path.{_≡_, ap, _∙_}
+use native.Mathlib.Omega.{arith}
+use borrow.Author.Needs.{needs}
+use lib.ListN.{length}
+use denote.Ref.{now}
+use Rattle.base.specs.Sums.{sumTo}
+use Rattle.base.specs.Words.{at}
+use Rattle.base.proofs.SumLaws.{sumTo-zero, sumTo-more}
+use Rattle.share_out.proofs.claims_total.Statement.{statement}
+use Rattle.share_out.proofs.claims_total.Tie as tie
+
+abbrev Inv-loop : tie.InvT-loop
+Inv-loop claims total₀ i₀ total i = (i ≤ length claims) × (total ≡ sumTo i (at claims)) × (total ≤ i * 20480000000)
+
+abbrev μ-loop : tie.MeasureT-loop
+μ-loop claims total₀ i₀ total i = length claims - i
+
+loop-holds : tie.Need-loop-holds Inv-loop μ-loop
+loop-holds c = omega (arith, sumTo-zero (at (now (c .args .claims))))
+
+mul-total : tie.Need-mul-total Inv-loop μ-loop
+mul-total c = search needs
+
+shared-slice-read-total : tie.Need-shared-slice-read-total Inv-loop μ-loop
+shared-slice-read-total c = search needs
+
+-- the next claim is within its range
+add-total : tie.Need-add-total Inv-loop μ-loop
+add-total c =
+    omega (arith, c .before .before .before .pre .1 (c .before .before .loop .i) (c .before .loop-test .taken))
+
+add-i : tie.Need-add-i Inv-loop μ-loop
+add-i c = search needs
+
+loop-less : tie.Need-loop-less Inv-loop μ-loop
+loop-less c = search needs
+
+loop-again : tie.Need-loop-again Inv-loop μ-loop
+loop-again c =
+    omega (
+      arith,
+      c .before .before .before .pre .1 (c .before .before .loop .i) (c .before .loop-test .taken),
+      sumTo-more (c .before .before .loop .i) (at (now (c .before .before .before .args .claims))),
+    )
+
+returns : tie.Need-returns Inv-loop μ-loop
+returns c =
+    let end : c .before .loop .i ≡ length (now (c .before .before .args .claims)) = omega arith in
+    c .before .loop .inv .1 ∙ ap (λ k. sumTo k (at (now (c .before .before .args .claims)))) end
+
+pub claims-total-spec : {M : Type 1} → statement M
+claims-total-spec =
+    tie.close
+    (tie.spec
+    Inv-loop
+    μ-loop
+    loop-holds
+    mul-total
+    shared-slice-read-total
+    add-total
+    add-i
+    loop-less
+    loop-again
+    returns)

@@ -1,0 +1,58 @@
+-- `grant_none` meets its contract: after i turns the first i grants are 0.
+use Prim.Native.Nat.{ℕ, _+_, _-_, _≤_}
+use mathlib.Core.Path.{_≡_, refl, sym, ap, _∙_}
+use native.Mathlib.Omega.{arith}
+use borrow.Author.Needs.{needs}
+use lib.ListN.{length, set, length-set}
+use denote.Ref.{now}
+use Rattle.base.specs.Words.{fill}
+use Rattle.base.proofs.WordLaws.{fill-zero, fill-turn, fill-whole}
+use Rattle.share_out.proofs.grant_none.Statement.{statement}
+use Rattle.share_out.proofs.grant_none.Tie as tie
+
+abbrev nothing : ℕ → ℕ
+nothing i = 0
+
+abbrev Inv-loop : tie.InvT-loop
+Inv-loop grants₀ i₀ grants i =
+    (i ≤ length grants₀) × (length grants ≡ length grants₀) × (grants ≡ fill i nothing grants₀)
+
+abbrev μ-loop : tie.MeasureT-loop
+μ-loop grants₀ i₀ grants i = length grants₀ - i
+
+loop-holds : tie.Need-loop-holds Inv-loop μ-loop
+loop-holds c = (search needs, refl, sym (fill-zero _ _))
+
+mul-grants : tie.Need-mul-grants Inv-loop μ-loop
+mul-grants c = search needs
+
+slice-write-grants : tie.Need-slice-write-grants Inv-loop μ-loop
+slice-write-grants c = search needs
+
+add-i : tie.Need-add-i Inv-loop μ-loop
+add-i c = search needs
+
+loop-less : tie.Need-loop-less Inv-loop μ-loop
+loop-less c = search needs
+
+loop-again : tie.Need-loop-again Inv-loop μ-loop
+loop-again c = (
+  search needs,
+  simp length-set (c .before .loop .inv .1),
+  fill-turn (c .before .loop .i) nothing _ _ _ (c .before .loop .inv .2) refl,
+)
+
+same-length : tie.Need-same-length Inv-loop μ-loop
+same-length c = c .before .loop .inv .1
+
+returns : tie.Need-returns Inv-loop μ-loop
+returns c =
+    let end : c .before .loop .i ≡ length (now (c .before .before .args .grants)) = omega arith in
+    c .before .loop .inv .2
+    ∙ ap (λ k. fill k nothing (now (c .before .before .args .grants))) end
+    ∙ fill-whole _ nothing (now (c .before .before .args .grants)) refl
+
+pub grant-none-spec : {M : Type 1} → statement M
+grant-none-spec =
+    tie.close
+    (tie.spec Inv-loop μ-loop loop-holds mul-grants slice-write-grants add-i loop-less loop-again same-length returns)

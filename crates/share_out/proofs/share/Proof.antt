@@ -1,0 +1,83 @@
+-- `share` meets its contract: its two answers are the definition's two cases.
+use mathlib.Core.Path.{_≡_, sym, ap, _∙_}
+use native.Mathlib.Omega.{arith}
+use borrow.Author.Needs.{needs}
+use lib.ListN.{length}
+use denote.Ref.{now}
+use Rattle.base.specs.Words.{tab}
+use Rattle.share_out.specs.Rule.{Shared}
+use Rattle.share_out.proofs.NumberLaws.{fit-pool, fit-claims, fit-weights}
+use Rattle.share_out.proofs.Promise.{shared-fits}
+use Rattle.share_out.proofs.OutcomeLaws.{answer-whole, answer-passes}
+use Rattle.share_out.proofs.share.Statement.{statement}
+use Rattle.share_out.proofs.share.Tie as tie
+
+claims-total-requires : tie.Need-claims-total-requires
+claims-total-requires c κs =
+    let p = c .before .before .before .pre in
+    (p .sized .few, fit-claims _ _ _ (p .ranged))
+
+grant-all-requires : tie.Need-grant-all-requires
+grant-all-requires c κs = search needs
+
+granted-requires : tie.Need-granted-requires
+granted-requires c κs = search needs
+
+same-length : tie.Need-same-length
+same-length c = search needs
+
+returns : tie.Need-returns
+returns c =
+    let a = c .before .before .before .before .before .before .before .before .before .before .args in
+    let total = c .before .before .before .before .before .before .claims-total in
+    let fits = c .before .before .before .before .before .if1 .taken in (
+      c .granted .ensures ∙ answer-whole (a .pool) (now (a .claims)) (now (a .weights)) (total .result) (total .ensures) fits,
+      c .before .before .before .grant-all .ensures
+          ∙ sym (ap (λ (s : Shared). s .grants) (shared-fits (a .pool) (now (a .claims)) (now (a .weights)) (omega (arith, total .ensures)))),
+    )
+
+grant-none-requires : tie.Need-grant-none-requires
+grant-none-requires c κs = search needs
+
+by-passes-requires : tie.Need-by-passes-requires
+by-passes-requires c κs =
+    let p = c .before .before .before .before .before .before .before .before .before .before .pre in
+    let total = c .before .before .before .before .before .before .claims-total in
+    record {
+      sized = record { few = p .sized .few; weighed = p .sized .weighed; granted = search needs };
+      pooled = fit-pool _ _ _ (p .ranged);
+      weighted = fit-weights _ _ _ (p .ranged);
+      short = omega (arith, total .ensures);
+      fresh = c .before .before .before .grant-none .ensures ∙ ap (λ n. tab n (λ i. 0)) (p .sized .granted);
+    }
+
+granted-requires-2 : tie.Need-granted-requires-2
+granted-requires-2 c κs = search needs
+
+same-length-2 : tie.Need-same-length-2
+same-length-2 c = search needs
+
+returns-2 : tie.Need-returns-2
+returns-2 c =
+    let a = c .before .before .before .before .before .before .before .before .before .before .before .before .before .before .args in
+    let total = c .before .before .before .before .before .before .before .before .before .before .claims-total in
+    let made = c .before .before .before .by-passes .ensures in (
+      c .granted2 .ensures
+          ∙ answer-passes (a .pool) (now (a .claims)) (now (a .weights)) _ _ (omega (arith, total .ensures, c .before .before .before .before .before .before .before .before .before .if1 .left)) made,
+      sym (ap (λ (s : Shared). s .grants) made),
+    )
+
+pub share-spec : {M : Type 1} → statement M
+share-spec =
+    tie.close
+    (tie.spec
+    claims-total-requires
+    grant-all-requires
+    granted-requires
+    same-length
+    returns
+    grant-none-requires
+    by-passes-requires
+    granted-requires-2
+    same-length-2
+    returns-2)

@@ -1,0 +1,4 @@
+pub mod Turn
+pub mod Pass
+pub mod Rule
+pub mod Fit

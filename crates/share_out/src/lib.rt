@@ -1,0 +1,246 @@
+// The share-out: a pool over claims with weights, in passes (document 01, "Share-out").
+use base::Answer;
+ghost use mathlib.Core.Path.{_≡_};
+ghost use mathlib.Core.Bool.{Bool, not, _&&_, _||_, true, false};
+ghost use Prim.Native.Nat.{ℕ, _+_, _-_, _*_, _/_, _<_, _≤_, min};
+ghost use lib.ListN.{length};
+ghost use Rattle.base.specs.Choice.{pick};
+ghost use Rattle.base.specs.Sums.{sumTo};
+ghost use Rattle.base.specs.Words.{at, tab, fill};
+ghost use Rattle.share_out.specs.Pass.{unmet, openWeights, oneEach, unweighted, passTotal, passGrants};
+ghost use Rattle.share_out.specs.Rule.{Shared, claimed, runPasses, shared, unfitLengths, unfitNumbers, sharedAnswer, shareOut};
+ghost use Rattle.share_out.specs.Turn.{inTurn};
+ghost use Rattle.share_out.specs.Fit.{Sized, AtMost, Raised, Completed, Ready, Accepted, wants};
+ghost use lib.Dec.{leb, ltb};
+
+const MOST_HOLDERS: usize = 32;
+
+const MOST_POOL_KW: u64 = 20_000_000;
+
+const MOST_CLAIM_KW: u64 = 20_480_000_000;
+
+const MOST_WEIGHT: u64 = 100_000_000;
+
+// The smaller of two numbers.
+fn smaller(a: u64, b: u64) -> u64
+    ensures { λ r. ⌜ r ≡ min a b ⌝ }
+{
+    if a < b { a } else { b }
+}
+
+// What a has above b, 0 if nothing.
+fn excess(a: u64, b: u64) -> u64
+    ensures { λ r. ⌜ r ≡ a - b ⌝ }
+{
+    if b < a { a - b } else { 0 }
+}
+
+// Number 5: whether lists of these lengths can't be shared out.
+fn unfit_lengths(claims: usize, weights: usize, output: usize) -> bool
+    ensures { λ r. ⌜ r ≡ unfitLengths claims weights output ⌝ }
+{
+    (claims != weights) | ((MOST_HOLDERS < claims) | (output < claims))
+}
+
+// Whether a claim and a weight are within their ranges.
+fn in_range(claim: u64, weight: u64) -> bool
+    ensures { λ r. ⌜ r ≡ (leb claim 20480000000 && leb weight 100000000) ⌝ }
+{
+    (claim <= MOST_CLAIM_KW) & (weight <= MOST_WEIGHT)
+}
+
+// Number 9: whether the pool, a claim or a weight is out of its range.
+fn unfit_numbers(pool: u64, claims: &[u64], weights: &[u64]) -> bool
+    requires { ⌜ length (now weights) ≡ length (now claims) ⌝ }
+    ensures { λ r. ⌜ r ≡ unfitNumbers pool (now (claims .entry)) (now (weights .entry)) ⌝ }
+{
+    if MOST_POOL_KW < pool {
+        return true;
+    }
+    let mut i = 0;
+    while i < claims.len() {
+        if !in_range(claims[i], weights[i]) {
+            return true;
+        }
+        i += 1;
+    }
+    false
+}
+
+// The claims together.
+fn claims_total(claims: &[u64]) -> u64
+    requires { ⌜ (length (now claims) ≤ 32) × AtMost (length (now claims)) (now claims) 20480000000 ⌝ }
+    ensures { λ r. ⌜ r ≡ claimed (now (claims .entry)) ⌝ }
+{
+    let mut total = 0;
+    let mut i = 0;
+    while i < claims.len() {
+        total += claims[i];
+        i += 1;
+    }
+    total
+}
+
+// Grants each claim whole.
+fn grant_all(claims: &[u64], grants: &mut [u64])
+    requires { ⌜ length (now grants) ≡ length (now claims) ⌝ }
+    ensures { λ _. ⌜ now (grants .exit) ≡ now (claims .entry) ⌝ }
+{
+    let mut i = 0;
+    while i < claims.len() {
+        grants[i] = claims[i];
+        i += 1;
+    }
+}
+
+// Grants nothing yet.
+fn grant_none(grants: &mut [u64])
+    ensures { λ _. ⌜ now (grants .exit) ≡ tab (length (now (grants .entry))) (λ i. 0) ⌝ }
+{
+    let mut i = 0;
+    while i < grants.len() {
+        grants[i] = 0;
+        i += 1;
+    }
+}
+
+// The weight that a holder brings into W: its own if it is open.
+fn open_weight(unmet: u64, weight: u64) -> u64
+    ensures { λ r. ⌜ r ≡ pick (ltb 0 unmet && ltb 0 weight) weight 0 ⌝ }
+{
+    if 0 < unmet { weight } else { 0 }
+}
+
+// W, the open weights' sum.
+fn open_weights(claims: &[u64], weights: &[u64], grants: &[u64]) -> u64
+    requires { ⌜ Sized (now claims) (now weights) (now grants) × AtMost (length (now claims)) (now weights) 100000000 ⌝ }
+    ensures { λ r. ⌜ r ≡ openWeights (now (claims .entry)) (now (weights .entry)) (now (grants .entry)) ⌝ }
+{
+    let mut all = 0;
+    let mut i = 0;
+    while i < claims.len() {
+        all += open_weight(excess(claims[i], grants[i]), weights[i]);
+        i += 1;
+    }
+    all
+}
+
+// A holder's part by weight: the smaller of its unmet claim and left × weight / all rounded down.
+fn part_by_weight(left: u64, weight: u64, all: u64, unmet: u64) -> u64
+    requires { ⌜ (left ≤ 20000000) × (weight ≤ 100000000) ⌝ }
+    ensures { λ r. ⌜ r ≡ min unmet (left * weight / all) ⌝ }
+{
+    if all == 0 {
+        return 0;
+    }
+    if unmet == 0 {
+        return 0;
+    }
+    smaller(unmet, left * weight / all)
+}
+
+// What a holder wants when holders are served in turn: singly 1 kW if it is open, else its unmet claim.
+fn want(singly: bool, unmet: u64, weight: u64) -> u64
+    ensures { λ r. ⌜ r ≡ pick singly (pick (ltb 0 unmet && ltb 0 weight) 1 0) unmet ⌝ }
+{
+    if !singly {
+        return unmet;
+    }
+    if (0 < unmet) & (0 < weight) { 1 } else { 0 }
+}
+
+// Serves holders in turn, lowest number first, until the pool is empty; hands back the kW given.
+fn serve_in_turn(
+    left: u64,
+    singly: bool,
+    claims: &[u64],
+    weights: &[u64],
+    grants: &mut [u64],
+) -> u64
+    requires { ⌜ Sized (now claims) (now weights) (now grants) ⌝ }
+    ensures { λ r. ⌜ Raised r (now (grants .exit)) (length (now (claims .entry))) (now (grants .entry)) (inTurn left (wants singly (now (claims .entry)) (now (weights .entry)) (now (grants .entry)))) ⌝ }
+{
+    let mut rest = left;
+    let mut i = 0;
+    while i < claims.len() {
+        let kw = smaller(want(singly, excess(claims[i], grants[i]), weights[i]), rest);
+        grants[i] += kw;
+        rest -= kw;
+        i += 1;
+    }
+    left - rest
+}
+
+// Completes a pass that gave `given` by weight: where that is 0, holders are served in turn, singly if any is open.
+fn complete(
+    given: u64,
+    left: u64,
+    all: u64,
+    claims: &[u64],
+    weights: &[u64],
+    grants: &mut [u64],
+) -> u64
+    requires { ⌜ Sized (now claims) (now weights) (now grants) ⌝ }
+    ensures { λ r. ⌜ Completed given left all r (now (claims .entry)) (now (weights .entry)) (now (grants .entry)) (now (grants .exit)) ⌝ }
+{
+    if 0 < given {
+        return given;
+    }
+    serve_in_turn(left, 0 < all, claims, weights, grants)
+}
+
+// Shares the pool out in passes until it is empty; hands back how many were made.
+fn by_passes(pool: u64, claims: &[u64], weights: &[u64], grants: &mut [u64]) -> u64
+    requires { ⌜ Ready pool (now claims) (now weights) (now grants) ⌝ }
+    ensures { λ r. ⌜ shared pool (now (claims .entry)) (now (weights .entry)) ≡ record { grants = now (grants .exit); passes = r } ⌝ }
+{
+    let mut left = pool;
+    let mut made = 0;
+    let passes = 'passes: loop {
+        if left == 0 {
+            break 'passes made;
+        }
+        let all = open_weights(claims, weights, grants);
+        let mut given = 0;
+        let mut i = 0;
+        while i < claims.len() {
+            let kw = part_by_weight(left, weights[i], all, excess(claims[i], grants[i]));
+            grants[i] += kw;
+            given += kw;
+            i += 1;
+        }
+        left -= complete(given, left, all, claims, weights, grants);
+        made += 1;
+    };
+    passes
+}
+
+// Shares out what numbers 5 and 9 let pass: each claim whole where they fit, else by passes.
+fn share(pool: u64, claims: &[u64], weights: &[u64], grants: &mut [u64]) -> Answer
+    requires { ⌜ Accepted pool (now claims) (now weights) (now grants) ⌝ }
+    ensures { λ r. ⌜ (r ≡ sharedAnswer pool (now (claims .entry)) (now (weights .entry))) × (now (grants .exit) ≡ shared pool (now (claims .entry)) (now (weights .entry)) .grants) ⌝ }
+{
+    let total = claims_total(claims);
+    if total <= pool {
+        grant_all(claims, grants);
+        return Answer::granted(total, 0);
+    }
+    grant_none(grants);
+    let passes = by_passes(pool, claims, weights, grants);
+    Answer::granted(pool, passes)
+}
+
+// Shares the pool out over the claims by weight: writes a grant for each claim into the first places of
+// the output and answers the kW granted and the passes. Refused with 5 or 9 it writes nothing.
+pub fn share_out(pool: u64, claims: &[u64], weights: &[u64], output: &mut [u64]) -> Answer
+    ensures { λ r. ⌜ (r ≡ shareOut pool (now (claims .entry)) (now (weights .entry)) (now (output .entry)) .answer) × (now (output .exit) ≡ shareOut pool (now (claims .entry)) (now (weights .entry)) (now (output .entry)) .output) ⌝ }
+{
+    let n = claims.len();
+    if unfit_lengths(n, weights.len(), output.len()) {
+        return Answer::refused(5);
+    }
+    if unfit_numbers(pool, claims, weights) {
+        return Answer::refused(9);
+    }
+    share(pool, claims, weights, &mut output[..n])
+}

@@ -1,0 +1,22 @@
+//! An assignment year: import capability on interties, assigned to load serving
+//! entities ("holders") in whole kW.
+//!
+//! - [`share_out`]: a pool shared out over claims by weights.
+//! - [`sheet`]: the year's sheet, read and checked.
+//! - [`year`]: the year's state and when it is orderly.
+//! - [`opening`]: Steps 1 to 7, from a sheet to the state.
+//! - [`calls`]: trade, request, close, take, move and lock.
+//! - [`beside`]: carry, same and post.
+#![forbid(unsafe_code)]
+
+pub mod answer;
+pub mod beside;
+pub mod calls;
+pub mod opening;
+pub mod share_out;
+pub mod sheet;
+pub mod year;
+
+pub use answer::Answer;
+pub use sheet::Sheet;
+pub use year::Year;
