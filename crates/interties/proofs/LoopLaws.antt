@@ -1,0 +1,136 @@
+-- The code's loops: over holders, a list and a column that are filled; over interties, a share-out on each.
+use Prim.Native.Nat.{ℕ, _+_, _≤_, _<_, zero-le}
+use mathlib.Core.Path.{_≡_, refl, sym, ap, _∙_}
+use mathlib.Core.List.{List}
+use native.Mathlib.Omega.{arith}
+use lib.ListN.{length, take, set, length-set}
+use Rattle.base.specs.Words.{at, tab, fill}
+use Rattle.base.specs.Answers.{granted}
+use Rattle.base.specs.declared.Answer.{Answer}
+use Rattle.base.proofs.SumLaws.{sumTo-zero, sumTo-more}
+use Rattle.base.proofs.WordLaws.{length-tab, fill-zero, fill-turn, fill-whole}
+use Rattle.share_out.specs.Rule.{Outcome, shareOut}
+use Rattle.interties.specs.Pairs.{place, atPair, column, fillColumn, fillPairs}
+use Rattle.interties.specs.Rule.{amongHolders, onIntertie, grantOn, kwOver, passesOver, shareOutEach}
+use Rattle.interties.specs.Fit.{Sized, SharedOn}
+use Rattle.interties.proofs.BaseMore.{take-tab}
+use Rattle.interties.proofs.PairLaws.{fillColumn-zero, fillColumn-more, length-fillColumn, fillPairs-zero, fillPairs-more}
+use Rattle.interties.proofs.IntertieLaws.{kept-on, kw-most, passes-most}
+use Rattle.interties.proofs.OutcomeLaws.{each-done}
+
+-- after h places of a list have got f
+pub record Filled (f : ℕ → ℕ) (first words : List ℕ) (h : ℕ) : Type 0 where
+  pub inside : h ≤ length first
+  pub size : length words ≡ length first
+  pub written : words ≡ fill h f first
+
+module _ (f : ℕ → ℕ) (first : List ℕ) where
+  pub filled-none : Filled f first first 0
+  filled-none = record { inside = zero-le; size = refl; written = sym (fill-zero f first) }
+
+  pub filled-next : (words : List ℕ) (h x : ℕ) → Filled f first words h → h < length words → x ≡ f h → Filled f first (set words h x) (h + 1)
+  filled-next words h x s l e =
+      record {
+        inside = omega (arith, s .size);
+        size = length-set words h x ∙ s .size;
+        written = fill-turn h f first words x (s .written) e;
+      }
+
+  pub filled-all : (words : List ℕ) (h : ℕ) → Filled f first words h → length words ≤ h → words ≡ tab (length first) f
+  filled-all words h s l =
+      let end : h ≡ length first = omega (arith, s .inside, s .size) in
+      s .written ∙ ap (λ k. fill k f first) end ∙ fill-whole (length first) f first refl
+
+-- after h of n holders have got f on intertie i
+pub record Scattered (i n : ℕ) (f : ℕ → ℕ) (first table : List ℕ) (h : ℕ) : Type 0 where
+  pub inside : h ≤ n
+  pub size : length table ≡ length first
+  pub written : table ≡ fillColumn i h f first
+
+module _ (i n : ℕ) (f : ℕ → ℕ) (first : List ℕ) where
+  pub scattered-none : Scattered i n f first first 0
+  scattered-none = record { inside = zero-le; size = refl; written = sym (fillColumn-zero i f first) }
+
+  pub scattered-next : (table : List ℕ) (h : ℕ) → Scattered i n f first table h → h < n →
+      Scattered i n f first (set table (place h i) (f h)) (h + 1)
+  scattered-next table h s l =
+      record {
+        inside = omega arith;
+        size = length-set table (place h i) (f h) ∙ s .size;
+        written = rw (s .written) (sym (fillColumn-more i f first h));
+      }
+
+  pub scattered-all : (table : List ℕ) (h : ℕ) → Scattered i n f first table h → n ≤ h → table ≡ fillColumn i n f first
+  scattered-all table h s l =
+      let end : h ≡ n = omega (arith, s .inside) in
+      s .written ∙ ap (λ k. fillColumn i k f first) end
+
+-- claims that are gathered, the first weights and room that is cleared are what the definition shares out over, and its output is scattered
+pub shared-on : (i H : ℕ) (pools claims weights claimed empty output grants after : List ℕ) (r : Answer) → H ≤ length weights →
+    claimed ≡ column claims H i → empty ≡ tab H (λ h. 0) →
+    (r ≡ shareOut (at pools i) claimed (take (length claimed) weights) empty .answer) × (output ≡ shareOut (at pools i) claimed (take (length claimed) weights) empty .output) →
+    after ≡ fillColumn i (length output) (at output) grants → SharedOn i H pools claims weights grants r after
+unfolding amongHolders
+shared-on i H pools claims weights claimed empty output grants after r enough c e o a =
+    let n : length claimed ≡ H = ap (λ l. length l) c ∙ length-tab H (λ h. atPair claims h i) in
+    let same : shareOut (at pools i) claimed (take (length claimed) weights) empty ≡ onIntertie H (at pools) (atPair claims) (at weights) i =
+    rw (n, take-tab H weights enough, c, e) in
+    let out : output ≡ onIntertie H (at pools) (atPair claims) (at weights) i .output = o .1 ∙ ap (λ (r : Outcome). r .output) same in
+    let m : length output ≡ H = ap (λ l. length l) out ∙ kept-on H (at pools) (atPair claims) (at weights) i .size in
+    record { answer = o .0 ∙ ap (λ (r : Outcome). r .answer) same; column = a ∙ rw (m, out) }
+
+-- after i of I interties, with k kW in p passes
+pub record Over (I H : ℕ) (pools claims weights first grants : List ℕ) (k p i : ℕ) : Type 0 where
+  pub inside : i ≤ I
+  pub size : length grants ≡ length first
+  pub kw : k ≡ kwOver H (at pools) (atPair claims) (at weights) i
+  pub passes : p ≡ passesOver H (at pools) (atPair claims) (at weights) i
+  pub written : grants ≡ fillPairs i H (grantOn H (at pools) (atPair claims) (at weights)) first
+
+module _ (I H : ℕ) (pools claims weights first : List ℕ) where
+  -- the share-out on intertie i
+  abbrev on : ℕ → Outcome
+  on i = onIntertie H (at pools) (atPair claims) (at weights) i
+
+  pub over-none : Over I H pools claims weights first first 0 0 0
+  over-none =
+      record {
+        inside = zero-le;
+        size = refl;
+        kw = sym (sumTo-zero (λ i. on i .answer .kw));
+        passes = sym (sumTo-zero (λ i. on i .answer .passes));
+        written = sym (fillPairs-zero H (grantOn H (at pools) (atPair claims) (at weights)) first);
+      }
+
+  -- one intertie more
+  module _ (grants after : List ℕ) (k p i : ℕ) (r : Answer) (s : Over I H pools claims weights first grants k p i) (l : i < I)
+      (d : SharedOn i H pools claims weights grants r after) where
+    kw-next : k + r .kw ≡ kwOver H (at pools) (atPair claims) (at weights) (i + 1)
+    kw-next = rw (s .kw, d .answer) (sym (sumTo-more i (λ i. on i .answer .kw)))
+
+    passes-next : p + r .passes ≡ passesOver H (at pools) (atPair claims) (at weights) (i + 1)
+    passes-next = rw (s .passes, d .answer) (sym (sumTo-more i (λ i. on i .answer .passes)))
+
+    pub over-next : Over I H pools claims weights first after (k + r .kw) (p + r .passes) (i + 1)
+    over-next =
+        record {
+          inside = omega arith;
+          size = ap (λ t. length t) (d .column) ∙ length-fillColumn i (at (on i .output)) grants H ∙ s .size;
+          kw = kw-next;
+          passes = passes-next;
+          written = d .column ∙ rw (s .written) (sym (fillPairs-more H (grantOn H (at pools) (atPair claims) (at weights)) first i));
+        }
+
+    -- the sums stay within 48 pools
+    pub over-most : I ≤ 48 → (k + r .kw ≤ 960000000) × (p + r .passes ≤ 960000000)
+    over-most few =
+        let kw : k + r .kw ≤ 960000000 = omega (arith, kw-next, kw-most H (at pools) (atPair claims) (at weights) (i + 1)) in
+        (kw, omega (arith, kw-next, passes-next, passes-most H (at pools) (atPair claims) (at weights) (i + 1)))
+
+  -- after all interties
+  pub over-all : (grants : List ℕ) (k p i : ℕ) (r : Answer) → Over I H pools claims weights first grants k p i → I ≤ i →
+      Sized I H pools claims weights first → r ≡ granted k p →
+      (r ≡ shareOutEach I H pools claims weights first .answer) × (grants ≡ shareOutEach I H pools claims weights first .output)
+  over-all grants k p i r s l fit a =
+      let end : i ≡ I = omega (arith, s .inside) in
+      rw (each-done I H pools claims weights first fit, ← end) ((a ∙ rw (s .kw, s .passes)), s .written)

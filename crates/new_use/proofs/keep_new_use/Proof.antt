@@ -1,0 +1,89 @@
+-- `keep_new_use` meets its contract: after r turns the state is the definition's after the ranks below r (`LoopLaws`).
+use Prim.Native.Nat.{_-_}
+use native.Mathlib.Omega.{arith}
+use lib.ListN.{length}
+use denote.Ref.{now}
+use Rattle.new_use.proofs.LoopLaws.{Ranked, ranked-none, ranked-next, ranked-all, cleared-size, cleared-whole}
+use borrow.Author.Needs.{needs}
+use Rattle.new_use.proofs.keep_new_use.Statement.{statement}
+use Rattle.new_use.proofs.keep_new_use.Tie as tie
+
+abbrev Inv-loop : tie.InvT-loop
+Inv-loop kw interties allowance cover₀ kept₀ ranks left₀ r₀ cover kept left r =
+    Ranked kw interties allowance cover₀ (length kept₀) ranks (record { cover = cover; kept = kept; allowance = left }) r
+
+abbrev μ-loop : tie.MeasureT-loop
+μ-loop kw interties allowance cover₀ kept₀ ranks left₀ r₀ cover kept left r = ranks - r
+
+clear-requires : tie.Need-clear-requires Inv-loop μ-loop
+clear-requires c κs = search needs
+
+shorter-requires : tie.Need-shorter-requires Inv-loop μ-loop
+shorter-requires c κs = search needs
+
+loop-holds : tie.Need-loop-holds Inv-loop μ-loop
+loop-holds c = ranked-none _ _ _ _ _ _ _ (cleared-whole (length (now (c .before .before .before .before .before .before .before .before .before .args .kept))) _ (c .before .before .before .clear .ensures))
+
+mul-keep-rank : tie.Need-mul-keep-rank Inv-loop μ-loop
+mul-keep-rank c = search needs
+
+shared-slice-read-keep-rank : tie.Need-shared-slice-read-keep-rank Inv-loop μ-loop
+shared-slice-read-keep-rank c = search needs
+
+mul-place : tie.Need-mul-place Inv-loop μ-loop
+mul-place c = search needs
+
+shared-slice-read-place : tie.Need-shared-slice-read-place Inv-loop μ-loop
+shared-slice-read-place c = search needs
+
+place-requires : tie.Need-place-requires Inv-loop μ-loop
+place-requires c κs = search needs
+
+keep-rank-requires : tie.Need-keep-rank-requires Inv-loop μ-loop
+keep-rank-requires c κs = omega (arith, c .before .before .before .before .before .before .loop .inv .kept .each (c .before .before .place .result))
+
+add-r : tie.Need-add-r Inv-loop μ-loop
+add-r c = search needs
+
+loop-less : tie.Need-loop-less Inv-loop μ-loop
+loop-less c = search needs
+
+loop-again : tie.Need-loop-again Inv-loop μ-loop
+loop-again c =
+    ranked-next _ _ _ _ _ _ _ _ _ _ (c .before .before .before .before .before .before .before .before .before .before .before .loop .inv)
+    (c .before .before .before .before .before .before .before .before .before .before .loop-test .taken)
+    (c .before .before .before .before .before .before .before .place .ensures)
+    (c .before .before .before .before .keep-rank .ensures)
+
+same-length : tie.Need-same-length Inv-loop μ-loop
+same-length c = search needs
+
+same-length-2 : tie.Need-same-length-2 Inv-loop μ-loop
+same-length-2 c = search needs
+
+returns : tie.Need-returns Inv-loop μ-loop
+returns c =
+    rw (← cleared-size (length (now (c .before .before .before .before .before .before .before .before .before .before .before .args .kept))) _ (c .before .before .before .before .before .clear .ensures))
+    (ranked-all _ _ _ _ _ _ _ _ (c .before .loop .inv) (c .loop-test .left) (c .before .before .shorter .ensures))
+
+pub keep-new-use-spec : {M : Type 1} → statement M
+keep-new-use-spec =
+    tie.close
+    (tie.spec
+    Inv-loop
+    μ-loop
+    clear-requires
+    shorter-requires
+    loop-holds
+    mul-keep-rank
+    shared-slice-read-keep-rank
+    mul-place
+    shared-slice-read-place
+    place-requires
+    keep-rank-requires
+    add-r
+    loop-less
+    loop-again
+    same-length
+    same-length-2
+    returns)

@@ -1,0 +1,6 @@
+pub mod Key
+pub mod Sheet
+pub mod Refusal
+pub mod Reading
+pub mod Tables
+pub mod Deciding

@@ -1,0 +1,4 @@
+pub mod BaseMore
+pub mod CheckLaws
+pub mod OrderlyLaws
+pub mod FrameLaws

@@ -1,0 +1,74 @@
+// The year's state: where its words stand, how they are read and stored, and whether they are
+// orderly.
+pub mod layout;
+mod orderly;
+
+use layout::ROW_WORDS;
+use layout::STATE_WORDS;
+ghost use mathlib.Core.Path.{_≡_};
+ghost use Prim.Native.Nat.{_+_};
+ghost use lib.ListN.{set};
+ghost use Rattle.base.specs.Words.{at};
+ghost use Rattle.state.specs.Layout.{place};
+ghost use Rattle.state.specs.Orderly.{stateRefusal};
+
+// The refusal that every call of the year begins with: 5 for a state under 16,000 words, 6 for one
+// that is not orderly, else 0.
+pub fn state_refusal(state: &[u32]) -> u32
+    ensures { λ r. ⌜ r ≡ stateRefusal (now (state .entry)) ⌝ }
+{
+    if state.len() < STATE_WORDS {
+        return 5;
+    }
+    if orderly::is_orderly(state) {
+        return 0;
+    }
+    6
+}
+
+// The word of a row and column: 0 past the end.
+pub fn word(state: &[u32], row: u32, column: u32) -> u32
+    ensures { λ r. ⌜ r ≡ at (now (state .entry)) (place row column) ⌝ }
+{
+    read(state, ROW_WORDS * (row as usize) + (column as usize))
+}
+
+// The word of a pair, in the field that begins at a row: 0 past the end.
+pub fn pair_word(state: &[u32], field: u32, holder: u32, intertie: u32) -> u32
+    ensures { λ r. ⌜ r ≡ at (now (state .entry)) (place (field + holder) intertie) ⌝ }
+{
+    let row = (field as usize) + (holder as usize);
+    read(state, ROW_WORDS * row + (intertie as usize))
+}
+
+// Stores the word of a row and column: nothing past the end.
+pub fn store(state: &mut [u32], row: u32, column: u32, value: u32)
+    ensures { λ _. ⌜ now (state .exit) ≡ set (now (state .entry)) (place row column) value ⌝ }
+{
+    write(state, ROW_WORDS * (row as usize) + (column as usize), value);
+}
+
+// Stores the word of a pair, in the field that begins at a row: nothing past the end.
+pub fn store_pair(state: &mut [u32], field: u32, holder: u32, intertie: u32, value: u32)
+    ensures { λ _. ⌜ now (state .exit) ≡ set (now (state .entry)) (place (field + holder) intertie) value ⌝ }
+{
+    let row = (field as usize) + (holder as usize);
+    write(state, ROW_WORDS * row + (intertie as usize), value);
+}
+
+fn read(state: &[u32], place: usize) -> u32
+    ensures { λ r. ⌜ r ≡ at (now (state .entry)) place ⌝ }
+{
+    if place < state.len() {
+        return state[place];
+    }
+    0
+}
+
+fn write(state: &mut [u32], place: usize, value: u32)
+    ensures { λ _. ⌜ now (state .exit) ≡ set (now (state .entry)) place value ⌝ }
+{
+    if place < state.len() {
+        state[place] = value;
+    }
+}

@@ -1,0 +1,3 @@
+pub mod SwapLaws
+pub mod BoundLaws
+pub mod AgreeLaws
