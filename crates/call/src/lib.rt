@@ -1,7 +1,9 @@
 // What the calls of the year share: the tests of the table of refusals, each tried in its turn.
 use state::layout;
 ghost use mathlib.Core.Path.{_≡_};
+ghost use mathlib.Core.Bool.{not, _||_};
 ghost use Prim.Native.Nat.{ℕ, _+_};
+ghost use lib.Dec.{eqb};
 ghost use Rattle.base.specs.Sums.{sumTo};
 ghost use Rattle.base.specs.Words.{at};
 ghost use Rattle.state.specs.Layout.{place, interties, holders, stageOf};
@@ -28,6 +30,13 @@ pub fn stage(state: &[u32]) -> u32
     state::word(state, layout::YEAR, layout::STAGE)
 }
 
+// Number 7: whether the stage is not 4, open.
+pub fn not_open(state: &[u32]) -> bool
+    ensures { λ r. ⌜ r ≡ not (eqb (stageOf (now (state .entry))) 4) ⌝ }
+{
+    stage(state) != layout::OPEN
+}
+
 // Number 8: whether the state has no such holder.
 pub fn no_holder(state: &[u32], holder: u32) -> bool
     ensures { λ r. ⌜ r ≡ noHolder (now (state .entry)) holder ⌝ }
@@ -40,6 +49,13 @@ pub fn no_intertie(state: &[u32], intertie: u32) -> bool
     ensures { λ r. ⌜ r ≡ noIntertie (now (state .entry)) intertie ⌝ }
 {
     state::word(state, layout::SIZES, layout::INTERTIES) <= intertie
+}
+
+// Number 8: whether the state has no such holder or no such intertie.
+pub fn no_pair(state: &[u32], holder: u32, intertie: u32) -> bool
+    ensures { λ r. ⌜ r ≡ (noHolder (now (state .entry)) holder || noIntertie (now (state .entry)) intertie) ⌝ }
+{
+    no_holder(state, holder) | no_intertie(state, intertie)
 }
 
 // Number 9: whether kW are not 1 to 20,000,000.

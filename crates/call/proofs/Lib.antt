@@ -1,0 +1,4 @@
+pub mod LadderLaws
+pub mod TestLaws
+pub mod StoreLaws
+pub mod KeptLaws

@@ -1,0 +1,82 @@
+-- `lock_refusal` meets its contract: the numbers are tried in turn.
+use mathlib.Core.Path.{sym, _∙_}
+use denote.Ref.{now}
+use Rattle.base.proofs.ChoiceLaws.{or-left}
+use Rattle.state.proofs.OrderlyLaws.{refusal-none}
+use Rattle.call.specs.Tests.{badKw, badTerm}
+use Rattle.call.proofs.LadderLaws.{turns}
+use Rattle.call.proofs.TestLaws.{kw-in-range}
+use Rattle.holding.specs.Lock.{lockRefusal}
+use borrow.Author.Needs.{needs}
+use Rattle.holding.proofs.lock_refusal.Statement.{statement}
+use Rattle.holding.proofs.lock_refusal.Tie as tie
+
+state-refusal-requires : tie.Need-state-refusal-requires
+state-refusal-requires c κs = search needs
+
+returns : tie.Need-returns
+unfolding lockRefusal
+returns c = search turns depth 8
+
+not-open-requires : tie.Need-not-open-requires
+not-open-requires c κs = search needs
+
+returns-2 : tie.Need-returns-2
+unfolding lockRefusal
+returns-2 c = search turns depth 8
+
+no-pair-requires : tie.Need-no-pair-requires
+no-pair-requires c κs = search needs
+
+returns-3 : tie.Need-returns-3
+unfolding lockRefusal
+returns-3 c = search turns depth 8
+
+unfit-lock-requires : tie.Need-unfit-lock-requires
+unfit-lock-requires c κs = search needs
+
+returns-4 : tie.Need-returns-4
+unfolding lockRefusal
+returns-4 c = search turns depth 8
+
+over-placed-requires : tie.Need-over-placed-requires
+over-placed-requires c κs = search needs
+
+returns-5 : tie.Need-returns-5
+unfolding lockRefusal
+returns-5 c = search turns depth 8
+
+barred-requires : tie.Need-barred-requires
+barred-requires c κs =
+    let past9 = c .before .before in
+    let past5 = past9 .before .before .before .before .before .before in
+    let a = past5 .before .before .before .args in (
+      refusal-none (now (a .state)) (sym (past5 .before .state-refusal .ensures) ∙ past5 .if1 .left) .1 .interties-most,
+      kw-in-range (a .kw) (or-left (badKw (a .kw)) (badTerm (a .term)) (sym (past9 .before .unfit-lock .ensures) ∙ past9 .if4 .left)) .1,
+    )
+
+returns-6 : tie.Need-returns-6
+unfolding lockRefusal
+returns-6 c = search turns depth 8
+
+returns-7 : tie.Need-returns-7
+unfolding lockRefusal
+returns-7 c = search turns depth 8
+
+pub lock-refusal-spec : {M : Type 1} → statement M
+lock-refusal-spec =
+    tie.close
+    (tie.spec
+    state-refusal-requires
+    returns
+    not-open-requires
+    returns-2
+    no-pair-requires
+    returns-3
+    unfit-lock-requires
+    returns-4
+    over-placed-requires
+    returns-5
+    barred-requires
+    returns-6
+    returns-7)

@@ -1,0 +1,61 @@
+-- `move_refusal` meets its contract: the numbers are tried in turn.
+use Rattle.call.proofs.LadderLaws.{turns}
+use Rattle.holding.specs.Move.{moveRefusal}
+use borrow.Author.Needs.{needs}
+use Rattle.holding.proofs.move_refusal.Statement.{statement}
+use Rattle.holding.proofs.move_refusal.Tie as tie
+
+state-refusal-requires : tie.Need-state-refusal-requires
+state-refusal-requires c κs = search needs
+
+returns : tie.Need-returns
+unfolding moveRefusal
+returns c = search turns depth 8
+
+no-moves-requires : tie.Need-no-moves-requires
+no-moves-requires c κs = search needs
+
+returns-2 : tie.Need-returns-2
+unfolding moveRefusal
+returns-2 c = search turns depth 8
+
+unfit-parties-requires : tie.Need-unfit-parties-requires
+unfit-parties-requires c κs = search needs
+
+returns-3 : tie.Need-returns-3
+unfolding moveRefusal
+returns-3 c = search turns depth 8
+
+bad-kw-requires : tie.Need-bad-kw-requires
+bad-kw-requires c κs = search needs
+
+returns-4 : tie.Need-returns-4
+unfolding moveRefusal
+returns-4 c = search turns depth 8
+
+over-movable-requires : tie.Need-over-movable-requires
+over-movable-requires c κs = search needs
+
+returns-5 : tie.Need-returns-5
+unfolding moveRefusal
+returns-5 c = search turns depth 8
+
+returns-6 : tie.Need-returns-6
+unfolding moveRefusal
+returns-6 c = search turns depth 8
+
+pub move-refusal-spec : {M : Type 1} → statement M
+move-refusal-spec =
+    tie.close
+    (tie.spec
+    state-refusal-requires
+    returns
+    no-moves-requires
+    returns-2
+    unfit-parties-requires
+    returns-3
+    bad-kw-requires
+    returns-4
+    over-movable-requires
+    returns-5
+    returns-6)

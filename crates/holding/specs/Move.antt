@@ -1,0 +1,31 @@
+-- Move (stages 3 and 4): placed kW above locked, from holder to holder on an intertie.
+use Prim.Native.Nat.{ℕ, _+_, _-_}
+use mathlib.Core.List.{List}
+use mathlib.Core.Bool.{not, _||_}
+use lib.Dec.{ltb, eqb}
+use lib.ListN.{set}
+use Rattle.base.specs.Answers.{granted}
+use Rattle.state.specs.Layout.{stageOf, placedAt, placedOf, lockedOf}
+use Rattle.state.specs.Orderly.{stateRefusal}
+use Rattle.call.specs.Outcome.{Outcome, decided, orElse, whenever}
+use Rattle.call.specs.Tests.{noHolder, noIntertie, badKw}
+
+-- the lowest number that applies, 0 if none
+unfoldable pub moveRefusal : List ℕ → ℕ → ℕ → ℕ → ℕ → ℕ
+moveRefusal s giver taker i kw =
+    orElse (stateRefusal s)
+    (orElse (whenever (not (eqb (stageOf s) 3 || eqb (stageOf s) 4)) 7)
+    (orElse (whenever (noHolder s giver || noHolder s taker || noIntertie s i || eqb giver taker) 8)
+    (orElse (whenever (badKw kw) 9)
+    (whenever (ltb (placedOf s giver i - lockedOf s giver i) kw) 10))))
+
+-- the state after the move
+unfoldable pub moveState : List ℕ → ℕ → ℕ → ℕ → ℕ → List ℕ
+moveState s giver taker i kw =
+    set
+    (set s (placedAt giver i) (placedOf s giver i - kw))
+    (placedAt taker i) (placedOf s taker i + kw)
+
+unfoldable pub move : List ℕ → ℕ → ℕ → ℕ → ℕ → Outcome
+move s giver taker i kw =
+    decided (moveRefusal s giver taker i kw) s (record { answer = granted kw 0; state = moveState s giver taker i kw })

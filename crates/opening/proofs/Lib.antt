@@ -1,0 +1,6 @@
+pub mod OpenedLaws
+pub mod StartLaws
+pub mod VectorLaws
+pub mod PartLaws
+pub mod ClaimLaws
+pub mod ReserveLaws

@@ -1,0 +1,4 @@
+pub mod Opened
+pub mod Open
+pub mod Vectors
+pub mod Reserve

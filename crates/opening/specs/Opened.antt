@@ -1,0 +1,58 @@
+-- The year's state after opening: every word that the rules name, for the holders below H and the interties below I. The other words stay.
+use Prim.Native.Nat.{ℕ}
+use mathlib.Core.List.{List}
+use lib.ListN.{set}
+use Rattle.state.specs.Layout.{intertiesAt, holdersAt, stageAt, lastDayAt}
+use Rattle.rows.specs.Rows.{fillRow, fillPairs}
+use Rattle.steps.specs.Inputs.{Inputs}
+use Rattle.steps.specs.Step4a.{preRaGranted}
+use Rattle.steps.specs.Step4b.{newUseGranted}
+use Rattle.steps.specs.Step5to7.{held, step5Share, step7Total, unassigned}
+
+module _ (y : Inputs) where
+  -- a row of the interties, a row of the holders, a field of the pairs, as `Layout` places them
+  abbrev pub perIntertie : ℕ → (ℕ → ℕ) → List ℕ → List ℕ
+  perIntertie row f s = fillRow row (y .interties) f s
+
+  abbrev pub perHolder : ℕ → (ℕ → ℕ) → List ℕ → List ℕ
+  perHolder row f s = fillRow row (y .holders) f s
+
+  abbrev pub perPair : ℕ → (ℕ → ℕ → ℕ) → List ℕ → List ℕ
+  perPair row f s = fillPairs row (y .holders) (y .interties) f s
+
+  -- I and H
+  unfoldable pub sizeWords : List ℕ → List ℕ
+  sizeWords s = set (set s intertiesAt (y .interties)) holdersAt (y .holders)
+
+  -- limits and outside rights; load shares, Step 5 shares, Step 7 totals and reserved
+  unfoldable pub figureWords : List ℕ → List ℕ
+  figureWords s =
+      perHolder 6 (held y)
+      (perHolder 5 (step7Total y)
+      (perHolder 4 (step5Share y)
+      (perHolder 3 (y .loadShare)
+      (perIntertie 2 (y .outside)
+      (perIntertie 1 (y .limit) s)))))
+
+  -- E, P and N
+  unfoldable pub reservedWords : List ℕ → List ℕ
+  reservedWords s = perPair 71 (newUseGranted y) (perPair 39 (preRaGranted y) (perPair 7 (y .existing) s))
+
+  -- stage 1, no taking yet; unassigned = available - E - P - N, unplaced = Step 5 share
+  unfoldable pub stageWords : List ℕ → List ℕ
+  stageWords s = perHolder 105 (step5Share y) (perIntertie 104 (unassigned y) (set (set s stageAt 1) lastDayAt 0))
+
+  -- the rest 0: sellers, last takings' weeks and takings; placed, taken, locked, lock terms and pending
+  unfoldable pub clearedWords : List ℕ → List ℕ
+  clearedWords s =
+      perPair 237 (λ h i. 0)
+      (perPair 205 (λ h i. 0)
+      (perPair 173 (λ h i. 0)
+      (perPair 141 (λ h i. 0)
+      (perPair 109 (λ h i. 0)
+      (perHolder 108 (λ h. 0)
+      (perHolder 107 (λ h. 0)
+      (perHolder 106 (λ h. 0) s)))))))
+
+  unfoldable pub openedState : List ℕ → List ℕ
+  openedState s = clearedWords (stageWords (reservedWords (figureWords (sizeWords s))))

@@ -1,0 +1,13 @@
+-- `count_in` meets its contract, by its two returns.
+use borrow.Author.Tests.{eq-eqb, ne-eqb}
+use Rattle.taking.proofs.Calendar.count_in.Statement.{statement}
+use Rattle.taking.proofs.Calendar.count_in.Tie as tie
+
+returns : tie.Need-returns
+returns c = rw (eq-eqb (c .before .before .args .self .week) (c .before .before .args .week) (c .if1 .taken))
+
+returns-2 : tie.Need-returns-2
+returns-2 c = rw (ne-eqb (c .before .before .args .self .week) (c .before .before .args .week) (c .if1 .left))
+
+pub count-in-spec : {M : Type 1} → statement M
+count-in-spec = tie.close (tie.spec returns returns-2)

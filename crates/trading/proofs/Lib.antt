@@ -1,0 +1,5 @@
+pub mod StepLaws
+pub mod KeepLaws
+pub mod MaskLaws
+pub mod TradeLaws
+pub mod RequestLaws

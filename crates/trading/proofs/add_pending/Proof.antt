@@ -1,0 +1,46 @@
+-- `add_pending` meets its contract: what a request that is not refused finds keeps the sum and the cast in range.
+use native.Mathlib.Omega.{arith}
+use borrow.Author.Needs.{needs}
+use Rattle.state.proofs.OrderlyLaws.{unplaced-most, pair-pending-most}
+use Rattle.trading.specs.Request.{requestState}
+use Rattle.trading.proofs.RequestLaws.{request-done}
+use Rattle.trading.proofs.add_pending.Statement.{statement}
+use Rattle.trading.proofs.add_pending.Tie as tie
+
+pair-word-requires : tie.Need-pair-word-requires
+pair-word-requires c κs = search needs
+
+cast-pending : tie.Need-cast-pending
+cast-pending c = search needs
+
+add-more : tie.Need-add-more
+add-more c =
+    let d = request-done _ _ _ _ (c .before .before .before .pre) in
+    omega (arith, unplaced-most (d .orderly) _ (d .holder-is), pair-pending-most (d .orderly) _ _ (d .holder-is) (d .intertie-is))
+
+cast-store-pair : tie.Need-cast-store-pair
+cast-store-pair c =
+    let d = request-done _ _ _ _ (c .before .before .before .before .pre) in
+    omega (arith, unplaced-most (d .orderly) _ (d .holder-is), pair-pending-most (d .orderly) _ _ (d .holder-is) (d .intertie-is))
+
+store-pair-requires : tie.Need-store-pair-requires
+store-pair-requires c κs = search needs
+
+same-length : tie.Need-same-length
+same-length c = search needs
+
+returns : tie.Need-returns
+unfolding requestState
+returns c = rw (c .before .before .store-pair .ensures, c .before .before .before .before .pair-word .ensures)
+
+pub add-pending-spec : {M : Type 1} → statement M
+add-pending-spec =
+    tie.close
+    (tie.spec
+    pair-word-requires
+    cast-pending
+    add-more
+    cast-store-pair
+    store-pair-requires
+    same-length
+    returns)

@@ -1,0 +1,27 @@
+-- Request (stages 2 and 3): adds to pending; all pending may not pass unplaced.
+use Prim.Native.Nat.{ℕ, _+_}
+use mathlib.Core.List.{List}
+use mathlib.Core.Bool.{not, _||_}
+use lib.Dec.{ltb, eqb}
+use lib.ListN.{set}
+use Rattle.base.specs.Answers.{granted}
+use Rattle.state.specs.Layout.{stageOf, unplacedOf, pendingAt, pendingOf, ofHolder}
+use Rattle.state.specs.Orderly.{stateRefusal}
+use Rattle.call.specs.Outcome.{Outcome, decided, orElse, whenever}
+use Rattle.call.specs.Tests.{noHolder, noIntertie, badKw}
+
+-- the lowest number that applies, 0 if none
+unfoldable pub requestRefusal : List ℕ → ℕ → ℕ → ℕ → ℕ
+requestRefusal s h i kw =
+    orElse (stateRefusal s)
+    (orElse (whenever (not (eqb (stageOf s) 2 || eqb (stageOf s) 3)) 7)
+    (orElse (whenever (noHolder s h || noIntertie s i) 8)
+    (orElse (whenever (badKw kw) 9)
+    (whenever (ltb (unplacedOf s h) (ofHolder pendingOf s h + kw)) 10))))
+
+-- the state after the request
+unfoldable pub requestState : List ℕ → ℕ → ℕ → ℕ → List ℕ
+requestState s h i kw = set s (pendingAt h i) (pendingOf s h i + kw)
+
+unfoldable pub request : List ℕ → ℕ → ℕ → ℕ → Outcome
+request s h i kw = decided (requestRefusal s h i kw) s (record { answer = granted kw 0; state = requestState s h i kw })

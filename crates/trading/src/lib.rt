@@ -1,0 +1,169 @@
+// Trade and request: how unplaced kilowatts pass from holder to holder, and how they are asked for
+// on an intertie (document 01, "Calls of the year").
+use base::Answer;
+use state::layout;
+ghost use mathlib.Core.Path.{_≡_};
+ghost use mathlib.Core.Bool.{not, _||_};
+ghost use Prim.Native.Nat.{_+_, _<_};
+ghost use lib.Dec.{ltb, eqb};
+ghost use Rattle.state.specs.Layout.{stageOf, unplacedOf, pendingOf, ofHolder};
+ghost use Rattle.call.specs.Tests.{noHolder, noIntertie};
+ghost use Rattle.trading.specs.Trade.{tradeRefusal, withSeller, tradeState, trade};
+ghost use Rattle.trading.specs.Request.{requestRefusal, requestState, request};
+
+// Trade: unplaced kW from one holder to another, in stage 1. The seller joins the buyer's sellers.
+pub fn trade(state: &mut [u32], seller: u32, buyer: u32, kw: u64) -> Answer
+    ensures { λ r. ⌜ (r ≡ trade (now (state .entry)) seller buyer kw .answer) × (now (state .exit) ≡ trade (now (state .entry)) seller buyer kw .state) ⌝ }
+{
+    let refusal = trade_refusal(state, seller, buyer, kw);
+    if refusal != 0 {
+        return Answer::refused(refusal);
+    }
+    sell(state, seller, buyer, kw);
+    Answer::granted(kw, 0)
+}
+
+// Request: adds to a holder's pending kW on an intertie, in stages 2 and 3.
+pub fn request(state: &mut [u32], holder: u32, intertie: u32, kw: u64) -> Answer
+    ensures { λ r. ⌜ (r ≡ request (now (state .entry)) holder intertie kw .answer) × (now (state .exit) ≡ request (now (state .entry)) holder intertie kw .state) ⌝ }
+{
+    let refusal = request_refusal(state, holder, intertie, kw);
+    if refusal != 0 {
+        return Answer::refused(refusal);
+    }
+    add_pending(state, holder, intertie, kw);
+    Answer::granted(kw, 0)
+}
+
+// The lowest number that applies to a trade, 0 if none.
+fn trade_refusal(state: &[u32], seller: u32, buyer: u32, kw: u64) -> u32
+    ensures { λ r. ⌜ r ≡ tradeRefusal (now (state .entry)) seller buyer kw ⌝ }
+{
+    let unfit = state::state_refusal(state);
+    if unfit != 0 {
+        return unfit;
+    }
+    if no_trades(state) {
+        return 7;
+    }
+    if unfit_parties(state, seller, buyer) {
+        return 8;
+    }
+    if call::bad_kw(kw) {
+        return 9;
+    }
+    if over_unplaced(state, seller, kw) {
+        return 10;
+    }
+    0
+}
+
+// The lowest number that applies to a request, 0 if none.
+fn request_refusal(state: &[u32], holder: u32, intertie: u32, kw: u64) -> u32
+    ensures { λ r. ⌜ r ≡ requestRefusal (now (state .entry)) holder intertie kw ⌝ }
+{
+    let unfit = state::state_refusal(state);
+    if unfit != 0 {
+        return unfit;
+    }
+    if no_requests(state) {
+        return 7;
+    }
+    if unfit_pair(state, holder, intertie) {
+        return 8;
+    }
+    if call::bad_kw(kw) {
+        return 9;
+    }
+    if over_unplaced_with_pending(state, holder, kw) {
+        return 10;
+    }
+    0
+}
+
+// Number 7: whether the stage has no trades.
+fn no_trades(state: &[u32]) -> bool
+    ensures { λ r. ⌜ r ≡ not (eqb (stageOf (now (state .entry))) 1) ⌝ }
+{
+    call::stage(state) != layout::TRADING
+}
+
+// Number 7: whether the stage has no requests.
+fn no_requests(state: &[u32]) -> bool
+    ensures { λ r. ⌜ r ≡ not (eqb (stageOf (now (state .entry))) 2 || eqb (stageOf (now (state .entry))) 3) ⌝ }
+{
+    let stage = call::stage(state);
+    !((stage == layout::FIRST_REQUESTS) | (stage == layout::SECOND_REQUESTS))
+}
+
+// Number 8: whether a party of a trade is no holder, or both are one.
+fn unfit_parties(state: &[u32], seller: u32, buyer: u32) -> bool
+    ensures { λ r. ⌜ r ≡ (noHolder (now (state .entry)) seller || noHolder (now (state .entry)) buyer || eqb seller buyer) ⌝ }
+{
+    call::no_holder(state, seller) | call::no_holder(state, buyer) | (seller == buyer)
+}
+
+// Number 8: whether a request names no holder or no intertie.
+fn unfit_pair(state: &[u32], holder: u32, intertie: u32) -> bool
+    ensures { λ r. ⌜ r ≡ (noHolder (now (state .entry)) holder || noIntertie (now (state .entry)) intertie) ⌝ }
+{
+    call::no_holder(state, holder) | call::no_intertie(state, intertie)
+}
+
+// Number 10: whether kW are more than the holder's unplaced.
+fn over_unplaced(state: &[u32], holder: u32, kw: u64) -> bool
+    ensures { λ r. ⌜ r ≡ ltb (unplacedOf (now (state .entry)) holder) kw ⌝ }
+{
+    unplaced(state, holder) < kw
+}
+
+// Number 10: whether kW and all that the holder has pending are more than its unplaced.
+fn over_unplaced_with_pending(state: &[u32], holder: u32, kw: u64) -> bool
+    ensures { λ r. ⌜ r ≡ ltb (unplacedOf (now (state .entry)) holder) (ofHolder pendingOf (now (state .entry)) holder + kw) ⌝ }
+{
+    let most = unplaced(state, holder);
+    let pending = call::of_holder(state, layout::PENDING, holder);
+    if most < pending {
+        return true;
+    }
+    most - pending < kw
+}
+
+// A holder's unplaced kW.
+fn unplaced(state: &[u32], holder: u32) -> u64
+    ensures { λ r. ⌜ r ≡ unplacedOf (now (state .entry)) holder ⌝ }
+{
+    state::word(state, layout::UNPLACED, holder) as u64
+}
+
+// Takes the kW from the seller's unplaced to the buyer's, and puts the seller among the buyer's
+// sellers.
+fn sell(state: &mut [u32], seller: u32, buyer: u32, kw: u64)
+    requires { ⌜ tradeRefusal (now state) seller buyer kw ≡ 0 ⌝ }
+    ensures { λ _. ⌜ now (state .exit) ≡ tradeState (now (state .entry)) seller buyer kw ⌝ }
+{
+    let left = unplaced(state, seller) - kw;
+    let bought = unplaced(state, buyer) + kw;
+    let sellers = with_seller(state::word(state, layout::SELLERS, buyer), seller);
+    state::store(state, layout::UNPLACED, seller, left as u32);
+    state::store(state, layout::UNPLACED, buyer, bought as u32);
+    state::store(state, layout::SELLERS, buyer, sellers);
+}
+
+// A mask of sellers with one more. A bit is set once, however often its holder sold.
+fn with_seller(sellers: u32, seller: u32) -> u32
+    requires { ⌜ seller < 32 ⌝ }
+    ensures { λ r. ⌜ r ≡ withSeller sellers seller ⌝ }
+{
+    sellers | (1 << seller)
+}
+
+// Adds the kW to what the pair of holder and intertie has pending.
+fn add_pending(state: &mut [u32], holder: u32, intertie: u32, kw: u64)
+    requires { ⌜ requestRefusal (now state) holder intertie kw ≡ 0 ⌝ }
+    ensures { λ _. ⌜ now (state .exit) ≡ requestState (now (state .entry)) holder intertie kw ⌝ }
+{
+    let pending = state::pair_word(state, layout::PENDING, holder, intertie) as u64;
+    let more = pending + kw;
+    state::store_pair(state, layout::PENDING, holder, intertie, more as u32);
+}
