@@ -8,9 +8,9 @@ use native.Mathlib.Omega.{arith}
 use native.Mathlib.Nat.{le-trans, mul-le-mul-right, add-assoc}
 use lib.Dec.{leb, eqb}
 use lib.ListN.{length, List·getD-eq-default}
-use Rattle.base.proofs.WordLaws.{length-tab, at-tab}
 use Rattle.base.specs.Sums.{sumTo, allTo}
 use Rattle.base.specs.Words.{at}
+use Rattle.base.proofs.WordLaws.{length-tab, at-tab}
 use Rattle.base.proofs.SumLaws.{sumTo-bound, sumTo-same}
 use Rattle.sheet.specs.Sheet.{interties, holders, count, kwAt, sumOver, howMany, isLimit, isLoadShare, isNewUse, limit, outside, existing, existingOn}
 use Rattle.sheet.specs.Refusal.{within, badLength, badSizes, recordsStand, oneLimitEach, oneLoadShareEach, noRankTwice, rulesHold, limitsHold, sheetRefusal}
@@ -20,7 +20,7 @@ use Rattle.sheet.proofs.BaseMore.{allTo-same, allTo-rows, le-or-lt}
 use Rattle.sheet.proofs.TableLaws.{at-limit, at-load-share, at-new-use, limit-at, outside-at, existing-at}
 use Rattle.sheet.proofs.RefusalLaws.{sized}
 use Rattle.sheet.proofs.OverLaws.{over-all}
-use Rattle.sheet.proofs.PassLaws.{word-below}
+use Rattle.sheet.proofs.ReadingLaws.{word-below}
 
 pub existing-bound : (kw : List ℕ) (H i : ℕ) → H ≤ 32 → Modest kw → tableExistingOn kw H i ≤ 32 * (1024 * 4_294_967_295)
 existing-bound kw H i h modest =

@@ -3,15 +3,16 @@ use Prim.Native.Nat.{ℕ, suc, _+_, _*_, _≤_, _<_, _^_}
 use mathlib.Core.Path.{_≡_, refl, ap, _∙_}
 use mathlib.Core.Bool.{Bool, true, _&&_}
 use mathlib.Core.List.{List}
+use native.Mathlib.Nat.{le-refl}
 use native.Mathlib.Omega.{arith}
 use native.Mathlib.Numerals.{add-one}
 use Rattle.base.specs.Sums.{allTo}
 use Rattle.base.specs.Words.{at}
 use Rattle.sheet.specs.Key.{intertieOf}
-use native.Mathlib.Nat.{le-refl}
-use Rattle.sheet.specs.Sheet.{wordAt, interties, holders, count, keyAt, kwAt, sumOver}
+use Rattle.sheet.specs.Sheet.{interties, holders, count, keyAt, kwAt, sumOver}
 use Rattle.sheet.specs.Refusal.{recordStands, recordsStand}
 use Rattle.sheet.specs.Tables.{slotOf, slots, table, add, Filled}
+use Rattle.sheet.proofs.ReadingLaws.{word-below}
 use Rattle.sheet.proofs.TallyLaws.{zeros, tally, tally-bound, tally-all}
 use Rattle.sheet.proofs.SlotLaws.{slot-of-below}
 
@@ -22,6 +23,7 @@ standsAt s k = recordStands (interties s) (holders s) (keyAt s k) (kwAt s k)
 abbrev pub slotAt : List ℕ → ℕ → ℕ
 slotAt s k = slotOf (keyAt s k)
 
+-- what holds after n records
 pub record Passed (s : List ℕ) (stand : Bool) (counts kw interties : List ℕ) (n : ℕ) : Type 0 where
   pub so-far : n ≤ count s
   pub standing : stand ≡ allTo n (standsAt s)
@@ -29,21 +31,17 @@ pub record Passed (s : List ℕ) (stand : Bool) (counts kw interties : List ℕ)
   pub summed : kw ≡ tally (slotAt s) (kwAt s) n (zeros slots)
   pub placed : interties ≡ tally (slotAt s) (λ k. intertieOf (keyAt s k)) n (zeros slots)
 
-pub passed-none : (s counts kw ties : List ℕ) (n : ℕ) → n ≡ 0 → counts ≡ zeros slots → kw ≡ zeros slots → ties ≡ zeros slots → Passed s true counts kw ties n
+-- the tables are empty before the first record
+pub passed-none : (s : List ℕ) (n : ℕ) → n ≡ 0 → Passed s true (zeros slots) (zeros slots) (zeros slots) n
 unfolding tally allTo
-passed-none s counts kw ties n e c k t =
+passed-none s n e =
     record {
       so-far = omega arith;
       standing = rw e refl;
-      counted = rw e c;
-      summed = rw e k;
-      placed = rw e t;
+      counted = rw e refl;
+      summed = rw e refl;
+      placed = rw e refl;
     }
-
--- a word is below 2 ^ 32
-pub word-below : (s : List ℕ) (b : ℕ) → ((i : ℕ) → at s i < 256) → wordAt s b ≤ 4_294_967_295
-unfolding wordAt
-word-below s b bytes = omega (arith, bytes b, bytes (b + 1), bytes (b + 2), bytes (b + 3))
 
 -- a table that every record was added to
 filled : (s : List ℕ) (n : ℕ) (amount : ℕ → ℕ) (l : List ℕ) → n ≡ count s → l ≡ tally (slotAt s) amount n (zeros slots) → l ≡ table s amount

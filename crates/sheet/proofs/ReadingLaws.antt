@@ -4,9 +4,11 @@ use mathlib.Core.Path.{_≡_, refl, sym, ap, _∙_}
 use mathlib.Core.Bool.{Bool, true, false}
 use mathlib.Core.List.{List}
 use native.Mathlib.Nat.{suc-ne-zero}
+use native.Mathlib.Omega.{arith}
 use lib.Dec.{leb}
 use borrow.Author.Tests.{le-leb, lt-leb, leb-true, leb-false}
 use Rattle.base.specs.Choice.{pick}
+use Rattle.base.specs.Words.{at}
 use Rattle.sheet.specs.Sheet.{wordAt, count, keyAt, kwAt}
 use Rattle.sheet.specs.Refusal.{badLength}
 use Rattle.sheet.specs.Reading.{recordAt, readAt}
@@ -14,6 +16,11 @@ use Rattle.sheet.specs.declared.cursor.Record.{Record}
 use Rattle.sheet.specs.declared.cursor.Cursor.{Cursor}
 use Rattle.sheet.specs.declared.cursor.Read.{Read}
 use Rattle.sheet.specs.declared.cursor.Read.the-variants.{Next, End}
+
+-- a word of bytes fits 32 bits
+pub word-below : (s : List ℕ) (b : ℕ) → ((i : ℕ) → at s i < 256) → wordAt s b ≤ 4_294_967_295
+unfolding wordAt
+word-below s b bytes = omega (arith, bytes b, bytes (b + 1), bytes (b + 2), bytes (b + 3))
 
 -- with b for what the test of number 1 gave and n for the count that was read
 pub read-refused : (s : List ℕ) (k : ℕ) (b : Bool) → b ≡ badLength s → b ≡ true → End ≡ readAt s k

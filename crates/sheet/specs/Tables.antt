@@ -1,4 +1,4 @@
--- The tables that one pass over the records fills: a slot for each thing that a record can say, and one more for the records that say nothing.
+-- The tables that one pass over the records fills: a slot for each limit, outside right, load share, contract and rank, and one more for the rest.
 use Prim.Native.Nat.{ℕ, _+_, _*_}
 use mathlib.Core.Path.{_≡_}
 use mathlib.Core.Bool.{_||_}
@@ -33,7 +33,7 @@ preRaSlot h i = 2240 + 64 * h + i
 abbrev pub newUseSlot : ℕ → ℕ → ℕ
 newUseSlot h r = 4288 + 256 * h + r
 
--- the slot of every other record
+-- the slot of the rest: records of no kind, and those of kinds 4 to 6 with a holder from 32 up
 abbrev pub otherSlot : ℕ
 otherSlot = 12480
 

@@ -107,10 +107,12 @@ fn read_sized(
     let intertie_count = words::word(sheet, 0) as usize;
     let holder_count = words::word(sheet, 4) as usize;
     let stand = tables::fill_tables(sheet, counts, kw, interties);
-    if !rules_hold(stand, counts, holder_count, intertie_count) {
+    let rules = rules_hold(stand, counts, holder_count, intertie_count);
+    let limits = limits_hold(kw, holder_count, intertie_count);
+    if !rules {
         return 3;
     }
-    if !limits_hold(kw, holder_count, intertie_count) {
+    if !limits {
         return 4;
     }
     0

@@ -1,5 +1,6 @@
 // The tables that one pass over the records fills. A record's slot goes by its kind, holder,
-// intertie and rank, and is its own for every key, whether or not the record stands.
+// intertie and rank. Records of no kind, and those of kinds 4 to 6 with a holder from 32 up, share
+// the last slot.
 ghost use mathlib.Core.Path.{_≡_};
 ghost use mathlib.Core.Bool.{false};
 ghost use Prim.Native.Nat.{_+_, _<_, _^_};
@@ -13,7 +14,7 @@ use crate::key;
 use crate::rules;
 use crate::words;
 
-// How many slots a table has.
+// How many slots a table has: 64 + 64 + 64 + 32 · 64 + 32 · 64 + 32 · 256, and one for the rest.
 pub const SLOTS: usize = 12481;
 
 // Where the slots of a kind start, limits at 0; holders have rows of 64 interties, or of 256 ranks.
@@ -41,6 +42,7 @@ fn slot(kind: usize, holder: usize, intertie: usize, rank: usize) -> usize
             if 31 < holder {
                 return OTHER;
             }
+            // Kind 5 starts 2,048 slots after kind 4.
             EXISTING + 2048 * (kind - 4) + 64 * holder + intertie
         }
         6 => {

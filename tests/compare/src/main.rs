@@ -1,8 +1,13 @@
 //! Compares the compiled library with the independent program. Prints a line for each suite and, last,
 //! `N passed, M failed`; a difference is printed whole and ends the run with status 1.
 
+mod calls;
+mod damages;
+mod layout;
 mod numbers;
 mod share_outs;
+mod sheet_refusals;
+mod sheets;
 mod zankurbe;
 
 /// The differences printed for a suite; the others are counted.
@@ -24,7 +29,12 @@ fn suite(name: &str, cases: u64, compare: impl Fn(u64) -> Result<(), String>) ->
 }
 
 fn main() {
-    let suites = [suite("share-outs", share_outs::CASES, share_outs::compare)];
+    let suites = [
+        suite("share-outs", share_outs::CASES, share_outs::compare),
+        suite("sheets", sheet_refusals::CASES, sheet_refusals::compare),
+        suite("lists of calls", calls::LISTS, calls::compare_list),
+        suite("single calls", calls::SINGLES, calls::compare_single),
+    ];
     let passed: u64 = suites.iter().map(|s| s.0).sum();
     let failed: u64 = suites.iter().map(|s| s.1).sum();
     println!("{passed} passed, {failed} failed");

@@ -37,31 +37,9 @@ rules-hold-requires c κs =
     let read = words (c .before) in
     omega (arith, sized _ (entry (c .before) .pre .1), read .word2 .ensures, read .before .word .ensures)
 
--- the test of number 3 is that of the rules
-rules : (c : tie.After-rules-hold) → c .rules-hold .result ≡ rulesHold (now (entry (c .before .before) .args .sheet))
-rules c =
-    let filled = c .before .before in
-    let read = words filled in
-    rules-decided _ (entry filled .pre .0) (entry filled .pre .1) _ _ (read .word2 .ensures) (read .before .word .ensures)
-    _ _ _ (filled .fill-tables .ensures .0) (filled .fill-tables .ensures .1 .counted) (c .rules-hold .ensures)
-
--- the test of number 4 is that of the limits
-limits : (c : tie.After-limits-hold) → c .limits-hold .result ≡ limitsHold (now (entry (c .before .before .before .before .before) .args .sheet))
-limits c =
-    let filled = c .before .before .before .before .before in
-    let read = words filled in
-    limits-decided _ (entry filled .pre .0) (entry filled .pre .1) _ _ (read .word2 .ensures) (read .before .word .ensures)
-    _ _ (filled .fill-tables .ensures .1 .summed) (c .limits-hold .ensures)
-
-returns : tie.Need-returns
-returns c =
-    let filled = c .before .before .before in
-    let pre = entry filled .pre in
-    (refused-3 _ (pre .0) (pre .1) _ (rules (c .before)) (not-true _ (c .if1 .taken)), filled .fill-tables .ensures .1)
-
 limits-hold-requires : tie.Need-limits-hold-requires
 limits-hold-requires c κs =
-    let filled = c .before .before .before .before in
+    let filled = c .before .before .before in
     let read = words filled in
     let pre = entry filled .pre in
     let sizes = sized _ (pre .1) in (
@@ -71,22 +49,48 @@ limits-hold-requires c κs =
           (modest _ (whole _ _ (pre .0) refl .few) (λ i. read .before .before .shared-slice-known .given i .fits)),
     )
 
+-- where both tests are made, and the tables before them
+abbrev filledAt : tie.After-limits-hold → tie.After-fill-tables
+filledAt c = c .before .before .before .before
+
+-- the test of number 3 is that of the rules
+rules : (c : tie.After-limits-hold) → c .before .before .rules-hold .result ≡ rulesHold (now (entry (filledAt c) .args .sheet))
+rules c =
+    let filled = filledAt c in
+    let pre = entry filled .pre in
+    let read = words filled in
+    rules-decided _ (pre .0) (pre .1) _ _ (read .word2 .ensures) (read .before .word .ensures)
+    _ _ _ (filled .fill-tables .ensures .0) (filled .fill-tables .ensures .1 .counted) (c .before .before .rules-hold .ensures)
+
+-- the test of number 4 is that of the limits
+limits : (c : tie.After-limits-hold) → c .limits-hold .result ≡ limitsHold (now (entry (filledAt c) .args .sheet))
+limits c =
+    let filled = filledAt c in
+    let pre = entry filled .pre in
+    let read = words filled in
+    limits-decided _ (pre .0) (pre .1) _ _ (read .word2 .ensures) (read .before .word .ensures)
+    _ _ (filled .fill-tables .ensures .1 .summed) (c .limits-hold .ensures)
+
+returns : tie.Need-returns
+returns c =
+    let tested = c .before in
+    let pre = entry (filledAt tested) .pre in
+    (refused-3 _ (pre .0) (pre .1) _ (rules tested) (not-true _ (c .if1 .taken)), filledAt tested .fill-tables .ensures .1)
+
 returns-2 : tie.Need-returns-2
 returns-2 c =
-    let ruled = c .before .before .before in
-    let filled = ruled .before .before .before in
-    let pre = entry filled .pre in (
-      refused-4 _ (pre .0) (pre .1) _ _ (rules (ruled .before)) (not-false _ (ruled .if1 .left)) (limits (c .before)) (not-true _ (c .if2 .taken)),
-      filled .fill-tables .ensures .1,
+    let tested = c .before .before in
+    let pre = entry (filledAt tested) .pre in (
+      refused-4 _ (pre .0) (pre .1) _ _ (rules tested) (not-false _ (c .before .if1 .left)) (limits tested) (not-true _ (c .if2 .taken)),
+      filledAt tested .fill-tables .ensures .1,
     )
 
 returns-3 : tie.Need-returns-3
 returns-3 c =
-    let ruled = c .before .before .before in
-    let filled = ruled .before .before .before in
-    let pre = entry filled .pre in (
-      stands _ (pre .0) (pre .1) _ _ (rules (ruled .before)) (not-false _ (ruled .if1 .left)) (limits (c .before)) (not-false _ (c .if2 .left)),
-      filled .fill-tables .ensures .1,
+    let tested = c .before .before in
+    let pre = entry (filledAt tested) .pre in (
+      stands _ (pre .0) (pre .1) _ _ (rules tested) (not-false _ (c .before .if1 .left)) (limits tested) (not-false _ (c .if2 .left)),
+      filledAt tested .fill-tables .ensures .1,
     )
 
 pub read-sized-spec : {M : Type 1} → statement M
@@ -99,7 +103,7 @@ read-sized-spec =
     cast-holder-count
     fill-tables-requires
     rules-hold-requires
-    returns
     limits-hold-requires
+    returns
     returns-2
     returns-3)

@@ -48,7 +48,7 @@ first-requires : tie.Need-first-requires Inv-loop μ-loop
 first-requires c κs = search needs
 
 loop-holds : tie.Need-loop-holds Inv-loop μ-loop
-loop-holds c = passed-none _ _ _ _ _ (c .first .ensures) refl refl refl
+loop-holds c = passed-none _ _ (c .first .ensures)
 
 read-within-requires : tie.Need-read-within-requires Inv-loop μ-loop
 read-within-requires c κs = whole _ _ (entry c .pre) (words c .word3 .ensures)
