@@ -6,5 +6,8 @@ fn main() {
     let built = Path::new(&here).join("../../target/staticlib");
     println!("cargo:rustc-link-search=native={}", built.display());
     println!("cargo:rustc-link-lib=static=zankurbe");
-    println!("cargo:rerun-if-changed={}", built.join("libzankurbe.a").display());
+    println!(
+        "cargo:rerun-if-changed={}",
+        built.join("libzankurbe.a").display()
+    );
 }

@@ -34,18 +34,39 @@ fn any_call(year: &Year, r: &mut Numbers) -> Call {
         3 => &[1, 2],
         _ => &[2, 3, 4],
     };
-    let kind = if r.once_in(5) { r.below(5) as u32 } else { r.one_of(kinds) };
+    let kind = if r.once_in(5) {
+        r.below(5) as u32
+    } else {
+        r.one_of(kinds)
+    };
     if (kind == 2 || kind == 3) && !r.once_in(4) {
         (holder, intertie) = placed_pair(year, r).unwrap_or((holder, intertie));
     }
     let kw = kw_near(year, kind, holder, intertie, r);
-    let day = year.last_taking_day.wrapping_add(r.below(9) as u32).wrapping_sub(2);
+    let day = year
+        .last_taking_day
+        .wrapping_add(r.below(9) as u32)
+        .wrapping_sub(2);
     match kind {
         0 => Call::Trade(holder, other, kw),
         1 => Call::Request(holder, intertie, kw),
         2 => Call::Move(holder, other, intertie, kw),
-        3 => Call::Lock(holder, intertie, kw, if r.once_in(4) { r.one_of(&[0, 31, u32::MAX]) } else { 1 + r.below(30) as u32 }),
-        _ => Call::Take(holder, intertie, kw, if r.once_in(20) { r.next() as u32 } else { day }),
+        3 => Call::Lock(
+            holder,
+            intertie,
+            kw,
+            if r.once_in(4) {
+                r.one_of(&[0, 31, u32::MAX])
+            } else {
+                1 + r.below(30) as u32
+            },
+        ),
+        _ => Call::Take(
+            holder,
+            intertie,
+            kw,
+            if r.once_in(20) { r.next() as u32 } else { day },
+        ),
     }
 }
 
@@ -79,7 +100,14 @@ fn kw_near(year: &Year, kind: u32, holder: u32, intertie: u32, r: &mut Numbers) 
     match r.below(12) {
         0 => amount,
         1 => amount + 1,
-        2 => r.one_of(&[0, 1, 20_000_000, 20_000_001, u64::from(u32::MAX) + 7, u64::MAX]),
+        2 => r.one_of(&[
+            0,
+            1,
+            20_000_000,
+            20_000_001,
+            u64::from(u32::MAX) + 7,
+            u64::MAX,
+        ]),
         3 => 1 + r.below(amount + 1),
         _ => 1 + r.below(amount / 4 + 1),
     }
@@ -90,7 +118,9 @@ fn ours(call: Call, words: &mut [u32]) -> Answer {
     match call {
         Call::Trade(seller, buyer, kw) => zankurbe::trade(words, seller, buyer, kw),
         Call::Request(holder, intertie, kw) => zankurbe::request(words, holder, intertie, kw),
-        Call::Move(giver, taker, intertie, kw) => zankurbe::move_kw(words, giver, taker, intertie, kw),
+        Call::Move(giver, taker, intertie, kw) => {
+            zankurbe::move_kw(words, giver, taker, intertie, kw)
+        }
         Call::Lock(holder, intertie, kw, term) => zankurbe::lock(words, holder, intertie, kw, term),
         Call::Take(holder, intertie, kw, day) => zankurbe::take(words, holder, intertie, kw, day),
     }
@@ -127,7 +157,14 @@ fn both(call: Call, words: &mut [u32], lent: usize, year: &mut Year) -> Result<(
     let unlike: Vec<String> = (0..words.len())
         .filter(|&at| words[at] != expected[at])
         .take(10)
-        .map(|at| format!("{}: library {}, independent {}", layout::name(at), words[at], expected[at]))
+        .map(|at| {
+            format!(
+                "{}: library {}, independent {}",
+                layout::name(at),
+                words[at],
+                expected[at]
+            )
+        })
         .collect();
     Err(format!(
         "{call:?} on {lent} words\n  library {our_refusal} {our_answer:?}\n  independent {refusal} {their_answer:?}\n  {unlike:?}"
@@ -160,7 +197,8 @@ pub fn compare_list(number: u64) -> Result<(), String> {
             close(&mut year, &mut words);
         }
         let call = any_call(&year, &mut r);
-        both(call, &mut words, STATE_WORDS, &mut year).map_err(|e| format!("list {number}, call {turn}: {e}"))?;
+        both(call, &mut words, STATE_WORDS, &mut year)
+            .map_err(|e| format!("list {number}, call {turn}: {e}"))?;
     }
     Ok(())
 }
@@ -180,7 +218,11 @@ pub fn compare_single(number: u64) -> Result<(), String> {
     }
     layout::write(&year, &mut words);
     damage(&year, &mut words, &mut r);
-    let lent = if r.once_in(12) { STATE_WORDS - 1 - r.index(3) } else { STATE_WORDS + r.index(9) };
+    let lent = if r.once_in(12) {
+        STATE_WORDS - 1 - r.index(3)
+    } else {
+        STATE_WORDS + r.index(9)
+    };
     let mut year = layout::read(&words);
     let call = any_call(&year, &mut r);
     both(call, &mut words, lent, &mut year).map_err(|e| format!("single call {number}: {e}"))
@@ -194,7 +236,11 @@ fn damage(year: &Year, words: &mut [u32], r: &mut Numbers) {
     }
     for _ in 0..r.below(3) {
         let row = r.index(269);
-        let width = if r.once_in(6) { 48 } else { year.interties.max(year.holders).clamp(1, 48) };
+        let width = if r.once_in(6) {
+            48
+        } else {
+            year.interties.max(year.holders).clamp(1, 48)
+        };
         let word = &mut words[48 * row + r.index(width as usize)];
         *word = match r.below(5) {
             0 => word.wrapping_add(1),

@@ -4,8 +4,9 @@ use crate::numbers::Numbers;
 use crate::sheets::{kw_records, Draft};
 use independent::share_out::MAX_HOLDERS;
 use independent::sheet::{
-    Key, Record, EXISTING_CONTRACT, HEADER_BYTES, LIMIT, LOAD_SHARE, MAX_INTERTIES, MAX_KW, MAX_LOAD_SHARE,
-    MAX_RECORDS, MAX_YEARS, NEW_USE_COMMITMENT, OUTSIDE_RIGHT, PRE_RA_COMMITMENT, RECORD_BYTES,
+    Key, Record, EXISTING_CONTRACT, HEADER_BYTES, LIMIT, LOAD_SHARE, MAX_INTERTIES, MAX_KW,
+    MAX_LOAD_SHARE, MAX_RECORDS, MAX_YEARS, NEW_USE_COMMITMENT, OUTSIDE_RIGHT, PRE_RA_COMMITMENT,
+    RECORD_BYTES,
 };
 
 /// The bytes of a sheet damaged for one of the numbers 1 to 4, sometimes for another one too.
@@ -51,7 +52,10 @@ pub fn garbage(r: &mut Numbers) -> Vec<u8> {
         1 => vec![r.one_of(&[0, 1, 255]); length],
         2 => {
             let count: u32 = r.one_of(&[0, 1, 1 << 29, 1 << 30, 1 << 31]);
-            [1, 1, count].into_iter().flat_map(u32::to_le_bytes).collect()
+            [1, 1, count]
+                .into_iter()
+                .flat_map(u32::to_le_bytes)
+                .collect()
         }
         _ => stray_records(r).bytes(),
     }
@@ -68,17 +72,38 @@ fn stray_records(r: &mut Numbers) -> Draft {
             rank: r.below(2) as u32,
             years: r.below(2) as u32,
         };
-        let key = if wild { Key::from_word(r.next() as u32) } else { key };
-        Record { key, quantity: if wild { r.next() as u32 } else { r.below(5) as u32 } }
+        let key = if wild {
+            Key::from_word(r.next() as u32)
+        } else {
+            key
+        };
+        Record {
+            key,
+            quantity: if wild {
+                r.next() as u32
+            } else {
+                r.below(5) as u32
+            },
+        }
     };
     let count = r.below(6);
     let mut records: Vec<Record> = (0..count).map(|_| any_record(r)).collect();
     records.insert(0, limit_record(0, 4));
-    Draft { interties: 1 + r.below(2) as u32, holders: 1 + r.below(3) as u32, records }
+    Draft {
+        interties: 1 + r.below(2) as u32,
+        holders: 1 + r.below(3) as u32,
+        records,
+    }
 }
 
 fn limit_record(intertie: u32, quantity: u32) -> Record {
-    let key = Key { kind: LIMIT, holder: 0, intertie, rank: 0, years: 0 };
+    let key = Key {
+        kind: LIMIT,
+        holder: 0,
+        intertie,
+        rank: 0,
+        years: 0,
+    };
     Record { key, quantity }
 }
 
@@ -93,10 +118,15 @@ fn break_length(bytes: &mut Vec<u8>, r: &mut Numbers) {
         5 => bytes.truncate(r.index(bytes.len())),
         _ => {
             // 8·K has the right low 32 bits for the first of these, 4·K for the second.
-            let wrapped = [count + (1 + r.below(7) as u32) * (1 << 29), count + (1 + r.below(3) as u32) * (1 << 30)];
+            let wrapped = [
+                count + (1 + r.below(7) as u32) * (1 << 29),
+                count + (1 + r.below(3) as u32) * (1 << 30),
+            ];
             let near = [count + 1, count.wrapping_sub(1), MAX_RECORDS as u32 + 1];
             let far = [count + (1 << 16), count + (1 << 31), u32::MAX];
-            let count = r.one_of(&[wrapped[0], wrapped[1], near[0], near[1], near[2], far[0], far[1], far[2]]);
+            let count = r.one_of(&[
+                wrapped[0], wrapped[1], near[0], near[1], near[2], far[0], far[1], far[2],
+            ]);
             bytes[8..HEADER_BYTES].copy_from_slice(&count.to_le_bytes());
         }
     }
@@ -134,8 +164,14 @@ fn break_a_rule(draft: &mut Draft, r: &mut Numbers) {
         2 => repeat_a_rank(draft, r),
         3 => resize_by_one(draft, r),
         _ => {
-            let kind =
-                r.one_of(&[LIMIT, OUTSIDE_RIGHT, LOAD_SHARE, EXISTING_CONTRACT, PRE_RA_COMMITMENT, NEW_USE_COMMITMENT]);
+            let kind = r.one_of(&[
+                LIMIT,
+                OUTSIDE_RIGHT,
+                LOAD_SHARE,
+                EXISTING_CONTRACT,
+                PRE_RA_COMMITMENT,
+                NEW_USE_COMMITMENT,
+            ]);
             // A sheet without the kind has at least its limits.
             if let Some(at) = find(draft, kind, r).or_else(|| find(draft, LIMIT, r)) {
                 break_record(draft, at, r);
@@ -146,7 +182,9 @@ fn break_a_rule(draft: &mut Draft, r: &mut Numbers) {
 
 /// A limit twice, a limit missing, or both.
 fn break_limits(draft: &mut Draft, r: &mut Numbers) {
-    let Some(at) = find(draft, LIMIT, r) else { return };
+    let Some(at) = find(draft, LIMIT, r) else {
+        return;
+    };
     let limit = draft.records[at];
     match r.below(4) {
         0 => {
@@ -154,7 +192,14 @@ fn break_limits(draft: &mut Draft, r: &mut Numbers) {
         }
         1 => draft.records[at].key.intertie = r.below(draft.interties.into()) as u32,
         2 => put(draft, limit, r),
-        _ => put(draft, Record { quantity: r.below(u64::from(MAX_KW) + 1) as u32, ..limit }, r),
+        _ => put(
+            draft,
+            Record {
+                quantity: r.below(u64::from(MAX_KW) + 1) as u32,
+                ..limit
+            },
+            r,
+        ),
     }
 }
 
@@ -164,7 +209,16 @@ fn repeat_a_load_share(draft: &mut Draft, r: &mut Numbers) {
         Some(at) => draft.records[at],
         None => {
             let holder = r.below(draft.holders.into()) as u32;
-            let none = Record { key: Key { kind: LOAD_SHARE, holder, intertie: 0, rank: 0, years: 0 }, quantity: 0 };
+            let none = Record {
+                key: Key {
+                    kind: LOAD_SHARE,
+                    holder,
+                    intertie: 0,
+                    rank: 0,
+                    years: 0,
+                },
+                quantity: 0,
+            };
             put(draft, none, r);
             none
         }
@@ -175,7 +229,9 @@ fn repeat_a_load_share(draft: &mut Draft, r: &mut Numbers) {
 
 /// A second commitment of a holder with the same rank, on the same intertie or another.
 fn repeat_a_rank(draft: &mut Draft, r: &mut Numbers) {
-    let Some(at) = find(draft, NEW_USE_COMMITMENT, r) else { return };
+    let Some(at) = find(draft, NEW_USE_COMMITMENT, r) else {
+        return;
+    };
     let mut again = draft.records[at];
     again.key.intertie = r.below(draft.interties.into()) as u32;
     again.key.years = 1 + r.below(MAX_YEARS.into()) as u32;
@@ -209,7 +265,9 @@ fn break_record(draft: &mut Draft, at: usize, r: &mut Numbers) {
         2 => key.years = r.one_of(&[1, 30, 128, 255]),
         3 | 4 if has_holder => key.holder = beyond_field(key.holder, holders, r),
         3 | 4 if holders > 1 => key.holder = 1 + r.below(u64::from(holders) - 1) as u32,
-        5 | 6 if kind == LOAD_SHARE && interties > 1 => key.intertie = 1 + r.below(u64::from(interties) - 1) as u32,
+        5 | 6 if kind == LOAD_SHARE && interties > 1 => {
+            key.intertie = 1 + r.below(u64::from(interties) - 1) as u32
+        }
         // The limit itself stays, so that it isn't missing too.
         5 | 6 if kind == LIMIT => {
             let mut stray = draft.records[at];
@@ -235,21 +293,48 @@ fn beyond_field(field: u32, bound: u32, r: &mut Numbers) -> u32 {
 
 /// A quantity that the kind may not have: one too many, far too many, or 0.
 fn beyond_quantity(kind: u32, r: &mut Numbers) -> u32 {
-    let most = if kind == LOAD_SHARE { MAX_LOAD_SHARE } else { MAX_KW };
-    let none = if kind == LIMIT || kind == LOAD_SHARE { most + 1 } else { 0 };
+    let most = if kind == LOAD_SHARE {
+        MAX_LOAD_SHARE
+    } else {
+        MAX_KW
+    };
+    let none = if kind == LIMIT || kind == LOAD_SHARE {
+        most + 1
+    } else {
+        0
+    };
     let any = most + 1 + (r.next() as u32 >> 1);
-    r.one_of(&[most + 1, most + 1, none, none, most + (1 << 31), any, u32::MAX])
+    r.one_of(&[
+        most + 1,
+        most + 1,
+        none,
+        none,
+        most + (1 << 31),
+        any,
+        u32::MAX,
+    ])
 }
 
 /// Number 4: outside rights and existing contracts above a limit: by 1 kW, by more, or by just so much
 /// that 32 bits would not show it.
 fn pass_a_limit(draft: &mut Draft, r: &mut Numbers) {
-    let Some(at) = find(draft, LIMIT, r) else { return };
-    let Record { key: Key { intertie, .. }, quantity: limit } = draft.records[at];
-    let counts = |record: &&Record| {
-        [OUTSIDE_RIGHT, EXISTING_CONTRACT].contains(&record.key.kind) && record.key.intertie == intertie
+    let Some(at) = find(draft, LIMIT, r) else {
+        return;
     };
-    let used: u64 = draft.records.iter().filter(counts).map(|record| u64::from(record.quantity)).sum();
+    let Record {
+        key: Key { intertie, .. },
+        quantity: limit,
+    } = draft.records[at];
+    let counts = |record: &&Record| {
+        [OUTSIDE_RIGHT, EXISTING_CONTRACT].contains(&record.key.kind)
+            && record.key.intertie == intertie
+    };
+    let used: u64 = draft
+        .records
+        .iter()
+        .filter(counts)
+        .map(|record| u64::from(record.quantity))
+        .sum();
     let left = u64::from(limit) - used;
     match r.below(4) {
         0 if used > 0 => draft.records[at].quantity = used as u32 - 1,
@@ -272,17 +357,42 @@ fn add_rights(draft: &mut Draft, intertie: u32, kw: u64, r: &mut Numbers) {
     let outside = r.below(3);
     for kw in kw_records(kw) {
         let key = if outside == 0 || (outside == 1 && r.once_in(2)) {
-            Key { kind: OUTSIDE_RIGHT, holder: 0, intertie, rank: 0, years: 0 }
+            Key {
+                kind: OUTSIDE_RIGHT,
+                holder: 0,
+                intertie,
+                rank: 0,
+                years: 0,
+            }
         } else {
-            Key { kind: EXISTING_CONTRACT, holder: r.below(draft.holders.into()) as u32, intertie, rank: 0, years: 1 }
+            Key {
+                kind: EXISTING_CONTRACT,
+                holder: r.below(draft.holders.into()) as u32,
+                intertie,
+                rank: 0,
+                years: 1,
+            }
         };
-        put(draft, Record { key, quantity: kw as u32 }, r);
+        put(
+            draft,
+            Record {
+                key,
+                quantity: kw as u32,
+            },
+            r,
+        );
     }
 }
 
 /// The index of one of the records of a kind.
 fn find(draft: &Draft, kind: u32, r: &mut Numbers) -> Option<usize> {
-    let of_kind = || draft.records.iter().enumerate().filter(|(_, record)| record.key.kind == kind);
+    let of_kind = || {
+        draft
+            .records
+            .iter()
+            .enumerate()
+            .filter(|(_, record)| record.key.kind == kind)
+    };
     let count = of_kind().count();
     of_kind().nth(r.index(count.max(1))).map(|(at, _)| at)
 }

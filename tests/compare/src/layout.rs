@@ -12,7 +12,12 @@ type Word = (&'static str, usize, usize, fn(&Year) -> u32);
 
 /// A field of the state: its name, its row (of a field of the pairs, the row of holder 0) and its words, to
 /// read and to write.
-type Field<Words> = (&'static str, usize, fn(&Year) -> &Words, fn(&mut Year) -> &mut Words);
+type Field<Words> = (
+    &'static str,
+    usize,
+    fn(&Year) -> &Words,
+    fn(&mut Year) -> &mut Words,
+);
 
 /// Single words: the sizes, the stage and the last taking's day.
 const SINGLE: [Word; 4] = [
@@ -26,19 +31,64 @@ const SINGLE: [Word; 4] = [
 const PER_INTERTIE: [Field<PerIntertie>; 3] = [
     ("limit", 1, |year| &year.limit, |year| &mut year.limit),
     ("outside", 2, |year| &year.outside, |year| &mut year.outside),
-    ("unassigned", 104, |year| &year.unassigned, |year| &mut year.unassigned),
+    (
+        "unassigned",
+        104,
+        |year| &year.unassigned,
+        |year| &mut year.unassigned,
+    ),
 ];
 
 /// Fields of the holders: the column is the holder.
 const PER_HOLDER: [Field<PerHolder>; 8] = [
-    ("load share", 3, |year| &year.load_share, |year| &mut year.load_share),
-    ("Step 5 share", 4, |year| &year.step5_share, |year| &mut year.step5_share),
-    ("Step 7 total", 5, |year| &year.step7_total, |year| &mut year.step7_total),
-    ("reserved", 6, |year| &year.reserved, |year| &mut year.reserved),
-    ("unplaced", 105, |year| &year.unplaced, |year| &mut year.unplaced),
-    ("sellers", 106, |year| &year.sellers, |year| &mut year.sellers),
-    ("last taking's week", 107, |year| &year.last_taking_week, |year| &mut year.last_taking_week),
-    ("takings", 108, |year| &year.takings, |year| &mut year.takings),
+    (
+        "load share",
+        3,
+        |year| &year.load_share,
+        |year| &mut year.load_share,
+    ),
+    (
+        "Step 5 share",
+        4,
+        |year| &year.step5_share,
+        |year| &mut year.step5_share,
+    ),
+    (
+        "Step 7 total",
+        5,
+        |year| &year.step7_total,
+        |year| &mut year.step7_total,
+    ),
+    (
+        "reserved",
+        6,
+        |year| &year.reserved,
+        |year| &mut year.reserved,
+    ),
+    (
+        "unplaced",
+        105,
+        |year| &year.unplaced,
+        |year| &mut year.unplaced,
+    ),
+    (
+        "sellers",
+        106,
+        |year| &year.sellers,
+        |year| &mut year.sellers,
+    ),
+    (
+        "last taking's week",
+        107,
+        |year| &year.last_taking_week,
+        |year| &mut year.last_taking_week,
+    ),
+    (
+        "takings",
+        108,
+        |year| &year.takings,
+        |year| &mut year.takings,
+    ),
 ];
 
 /// Fields of the pairs: the row is the holder's, the column is the intertie.
@@ -49,8 +99,18 @@ const PER_PAIR: [Field<PerPair>; 8] = [
     ("placed", 109, |year| &year.placed, |year| &mut year.placed),
     ("taken", 141, |year| &year.taken, |year| &mut year.taken),
     ("locked", 173, |year| &year.locked, |year| &mut year.locked),
-    ("lock term", 205, |year| &year.lock_term, |year| &mut year.lock_term),
-    ("pending", 237, |year| &year.pending, |year| &mut year.pending),
+    (
+        "lock term",
+        205,
+        |year| &year.lock_term,
+        |year| &mut year.lock_term,
+    ),
+    (
+        "pending",
+        237,
+        |year| &year.pending,
+        |year| &mut year.pending,
+    ),
 ];
 
 /// The place of word `column` of row `row`.
@@ -118,7 +178,10 @@ pub fn name(at: usize) -> String {
     if let Some((name, ..)) = PER_HOLDER.iter().find(|field| field.1 == row) {
         return format!("{name} of holder {column}");
     }
-    match PER_PAIR.iter().find(|field| (field.1..field.1 + MAX_HOLDERS).contains(&row)) {
+    match PER_PAIR
+        .iter()
+        .find(|field| (field.1..field.1 + MAX_HOLDERS).contains(&row))
+    {
         Some((name, first, ..)) => format!("{name} of holder {} on intertie {column}", row - first),
         None => "no named word".to_string(),
     }

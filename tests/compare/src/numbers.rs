@@ -5,7 +5,10 @@ pub struct Numbers(u64);
 impl Numbers {
     /// The generator of case `case` of the suite `suite`.
     pub fn new(suite: u64, case: u64) -> Numbers {
-        let mut numbers = Numbers(suite.wrapping_mul(0x9E37_79B9_7F4A_7C15) ^ (case + 1).wrapping_mul(0xD134_2543_DE82_EF95));
+        let mut numbers = Numbers(
+            suite.wrapping_mul(0x9E37_79B9_7F4A_7C15)
+                ^ (case + 1).wrapping_mul(0xD134_2543_DE82_EF95),
+        );
         for _ in 0..4 {
             numbers.next();
         }

@@ -27,7 +27,15 @@ pub fn case(number: u64) -> Case {
     let equal = r.once_in(5);
     let zero_weights = r.one_of(&[0, 2, 4, 20]);
     let first = r.below(most_weight + 1);
-    let claims: Vec<u64> = (0..holders).map(|_| if r.once_in(6) { 0 } else { r.below(most_kw + 1) }).collect();
+    let claims: Vec<u64> = (0..holders)
+        .map(|_| {
+            if r.once_in(6) {
+                0
+            } else {
+                r.below(most_kw + 1)
+            }
+        })
+        .collect();
     let weights: Vec<u64> = (0..holders)
         .map(|_| {
             if zero_weights > 0 && r.once_in(zero_weights) {
@@ -50,7 +58,12 @@ pub fn case(number: u64) -> Case {
     };
     let room = holders + if r.once_in(3) { 0 } else { r.below(6) as usize };
     let output = (0..room).map(|_| r.next()).collect();
-    let mut case = Case { pool, claims, weights, output };
+    let mut case = Case {
+        pool,
+        claims,
+        weights,
+        output,
+    };
     if r.once_in(6) {
         damage(&mut case, &mut r);
     }
@@ -60,7 +73,13 @@ pub fn case(number: u64) -> Case {
 /// One thing, or two, that numbers 5 and 9 are about, by one beyond the limit or far.
 fn damage(case: &mut Case, r: &mut Numbers) {
     for _ in 0..1 + r.below(2) {
-        let beyond = |most: u64, r: &mut Numbers| if r.once_in(2) { most + 1 } else { most.saturating_add(r.next() >> r.below(30)) };
+        let beyond = |most: u64, r: &mut Numbers| {
+            if r.once_in(2) {
+                most + 1
+            } else {
+                most.saturating_add(r.next() >> r.below(30))
+            }
+        };
         match r.below(8) {
             0 => case.pool = beyond(MAX_POOL_KW, r),
             1 if !case.claims.is_empty() => {
@@ -96,7 +115,12 @@ fn damage(case: &mut Case, r: &mut Numbers) {
 
 /// Compares case `number`, or says how the two differ.
 pub fn compare(number: u64) -> Result<(), String> {
-    let Case { pool, claims, weights, output } = case(number);
+    let Case {
+        pool,
+        claims,
+        weights,
+        output,
+    } = case(number);
     let (mut ours, mut theirs) = (output.clone(), output.clone());
     let (claims_lent, weights_lent) = (claims.clone(), weights.clone());
     let our_answer = zankurbe::share_out(pool, &claims_lent, &weights_lent, &mut ours);

@@ -5,8 +5,8 @@ use crate::damages;
 use crate::numbers::Numbers;
 use independent::share_out::MAX_HOLDERS;
 use independent::sheet::{
-    Key, Record, EXISTING_CONTRACT, LIMIT, LOAD_SHARE, MAX_INTERTIES, MAX_KW, MAX_LOAD_SHARE, MAX_RANK, MAX_RECORDS,
-    MAX_YEARS, NEW_USE_COMMITMENT, OUTSIDE_RIGHT, PRE_RA_COMMITMENT,
+    Key, Record, EXISTING_CONTRACT, LIMIT, LOAD_SHARE, MAX_INTERTIES, MAX_KW, MAX_LOAD_SHARE,
+    MAX_RANK, MAX_RECORDS, MAX_YEARS, NEW_USE_COMMITMENT, OUTSIDE_RIGHT, PRE_RA_COMMITMENT,
 };
 
 /// The most kW of a limit or a record, and the most of a load share.
@@ -26,7 +26,12 @@ impl Draft {
         let header = [self.interties, self.holders, self.records.len() as u32];
         let keys = self.records.iter().map(|record| record.key.to_word());
         let quantities = self.records.iter().map(|record| record.quantity);
-        header.into_iter().chain(keys).chain(quantities).flat_map(u32::to_le_bytes).collect()
+        header
+            .into_iter()
+            .chain(keys)
+            .chain(quantities)
+            .flat_map(u32::to_le_bytes)
+            .collect()
     }
 
     /// How many records may still be added.
@@ -91,8 +96,16 @@ impl Plan {
     /// A sheet of some size with its limits only.
     fn new(r: &mut Numbers) -> Plan {
         let largest = r.once_in(40);
-        let (interties, holders) = if largest { (MAX_INTERTIES, MAX_HOLDERS) } else { sizes(r) };
-        let limits = if largest { vec![MOST_KW; interties] } else { limits(interties, r) };
+        let (interties, holders) = if largest {
+            (MAX_INTERTIES, MAX_HOLDERS)
+        } else {
+            sizes(r)
+        };
+        let limits = if largest {
+            vec![MOST_KW; interties]
+        } else {
+            limits(interties, r)
+        };
         let mut plan = Plan {
             draft: Draft {
                 interties: interties as u32,
@@ -109,7 +122,16 @@ impl Plan {
             ranks: (0..holders).map(|_| ranks(r)).collect(),
         };
         for (intertie, kw) in limits.into_iter().enumerate() {
-            plan.add(Key { kind: LIMIT, holder: 0, intertie: intertie as u32, rank: 0, years: 0 }, kw);
+            plan.add(
+                Key {
+                    kind: LIMIT,
+                    holder: 0,
+                    intertie: intertie as u32,
+                    rank: 0,
+                    years: 0,
+                },
+                kw,
+            );
         }
         plan
     }
@@ -123,14 +145,26 @@ impl Plan {
     }
 
     fn add(&mut self, key: Key, quantity: u64) {
-        self.draft.records.push(Record { key, quantity: quantity as u32 });
+        self.draft.records.push(Record {
+            key,
+            quantity: quantity as u32,
+        });
     }
 
     /// Adds an outside right.
     fn add_outside(&mut self, intertie: usize, kw: u64) {
         self.left[intertie] -= kw;
         self.total_kw -= kw;
-        self.add(Key { kind: OUTSIDE_RIGHT, holder: 0, intertie: intertie as u32, rank: 0, years: 0 }, kw);
+        self.add(
+            Key {
+                kind: OUTSIDE_RIGHT,
+                holder: 0,
+                intertie: intertie as u32,
+                rank: 0,
+                years: 0,
+            },
+            kw,
+        );
     }
 
     /// Adds an existing contract.
@@ -149,7 +183,10 @@ impl Plan {
     /// Adds a New Use commitment with the holder's next rank; none if its ranks are used up.
     fn add_new_use(&mut self, (intertie, holder): (usize, usize), kw: u64, r: &mut Numbers) {
         if let Some(rank) = self.ranks[holder].pop() {
-            self.add(pair_key(NEW_USE_COMMITMENT, (intertie, holder), rank, r), kw);
+            self.add(
+                pair_key(NEW_USE_COMMITMENT, (intertie, holder), rank, r),
+                kw,
+            );
         }
     }
 
@@ -160,7 +197,11 @@ impl Plan {
         }
         let pairs = self.interties() * self.holders();
         let range = r.one_of(&[3, pairs / 2, pairs, 2 * pairs, 4 * pairs]) + 2;
-        let least = if self.crowded.is_some() { 2 * self.holders() } else { 0 };
+        let least = if self.crowded.is_some() {
+            2 * self.holders()
+        } else {
+            0
+        };
         (least + r.index(range)).min(most)
     }
 
@@ -180,13 +221,26 @@ impl Plan {
                 1 => Some(0),
                 2 => Some(MOST_SHARE),
                 3..=5 => Some(first),
-                6 | 7 => Some(if holder == large { MOST_SHARE } else { r.below(3) }),
+                6 | 7 => Some(if holder == large {
+                    MOST_SHARE
+                } else {
+                    r.below(3)
+                }),
                 _ if r.once_in(missing) => None,
                 _ if r.once_in(zeros) => Some(0),
                 _ => Some(r.below(most) + 1),
             };
             if let Some(share) = share {
-                self.add(Key { kind: LOAD_SHARE, holder: holder as u32, intertie: 0, rank: 0, years: 0 }, share);
+                self.add(
+                    Key {
+                        kind: LOAD_SHARE,
+                        holder: holder as u32,
+                        intertie: 0,
+                        rank: 0,
+                        years: 0,
+                    },
+                    share,
+                );
             }
         }
     }
@@ -199,7 +253,11 @@ impl Plan {
         let (often, parts) = (r.one_of(&[2, 4, 12]), r.one_of(&[4, 10, 40]));
         for intertie in 0..self.interties() {
             while self.left[intertie] > 0 && self.draft.room() > 600 && r.once_in(often) {
-                let most = if r.once_in(20) { self.left[intertie] } else { self.left[intertie] / parts };
+                let most = if r.once_in(20) {
+                    self.left[intertie]
+                } else {
+                    self.left[intertie] / parts
+                };
                 self.add_outside(intertie, part(most, r));
             }
         }
@@ -209,9 +267,17 @@ impl Plan {
     fn existing_contracts(&mut self, r: &mut Numbers) {
         let popular = self.popular(r);
         let all_by_one = self.crowded.is_none() && r.once_in(20);
-        let count = if all_by_one { 0 } else { self.count(self.draft.room() / 4, r) };
+        let count = if all_by_one {
+            0
+        } else {
+            self.count(self.draft.room() / 4, r)
+        };
         let each = self.left.iter().sum::<u64>() / count.max(1) as u64;
-        let most = if self.crowded.is_some() { each / 8 } else { r.one_of(&[each / 8, each / 2, each, 4 * each]) };
+        let most = if self.crowded.is_some() {
+            each / 8
+        } else {
+            r.one_of(&[each / 8, each / 2, each, 4 * each])
+        };
         for _ in 0..count {
             let (intertie, holder) = self.pair(&popular, r);
             if self.left[intertie] > 0 {
@@ -221,7 +287,10 @@ impl Plan {
         }
         let (holder, filled) = (r.index(self.holders()), r.one_of(&[8, 100, 1_000]));
         for intertie in 0..self.interties() {
-            if self.left[intertie] > 0 && self.draft.room() > 300 && (all_by_one || r.once_in(filled)) {
+            if self.left[intertie] > 0
+                && self.draft.room() > 300
+                && (all_by_one || r.once_in(filled))
+            {
                 self.add_existing((intertie, holder), self.left[intertie], r);
             }
         }
@@ -250,7 +319,10 @@ impl Plan {
         let each = self.total_kw / count.max(1) as u64;
         let (popular, most) = match self.crowded {
             Some((_, crowd)) => (vec![crowd], 2 * self.total_kw / self.holders() as u64),
-            None => (self.popular(r), r.one_of(&[each / 2, each, 2 * each, 8 * each, 30 * each, MOST_KW])),
+            None => (
+                self.popular(r),
+                r.one_of(&[each / 2, each, 2 * each, 8 * each, 30 * each, MOST_KW]),
+            ),
         };
         for _ in 0..count {
             let pair = self.pair(&popular, r);
@@ -269,12 +341,16 @@ impl Plan {
         let each = self.left.iter().sum::<u64>() / count.max(1) as u64;
         let (popular, most) = match self.crowded {
             Some((crowd, _)) => (vec![crowd], each / 8),
-            None => (self.popular(r), r.one_of(&[each / 8, each / 4, each / 2, each, 8 * each, MOST_KW])),
+            None => (
+                self.popular(r),
+                r.one_of(&[each / 8, each / 4, each / 2, each, 8 * each, MOST_KW]),
+            ),
         };
         for _ in 0..count {
             let pair = self.pair(&popular, r);
             let in_crowd = self.crowded.is_some_and(|(crowd, _)| crowd == pair.0);
-            let kw = self.kw_of_commitment(pair, if in_crowd { self.left[pair.0] } else { most }, r);
+            let kw =
+                self.kw_of_commitment(pair, if in_crowd { self.left[pair.0] } else { most }, r);
             self.add_pre_ra(pair, kw, r);
         }
         let exact = r.one_of(&[2, 8, 1_000]);
@@ -286,7 +362,12 @@ impl Plan {
     }
 
     /// The kW of a commitment of a pair: of a size with its E, if it has any, or up to `most`.
-    fn kw_of_commitment(&self, (intertie, holder): (usize, usize), most: u64, r: &mut Numbers) -> u64 {
+    fn kw_of_commitment(
+        &self,
+        (intertie, holder): (usize, usize),
+        most: u64,
+        r: &mut Numbers,
+    ) -> u64 {
         match self.existing[intertie][holder] {
             existing if existing > 0 && r.once_in(2) => near(existing, r),
             _ => part(most, r),
@@ -297,7 +378,9 @@ impl Plan {
     fn ask_for_all(&mut self, intertie: usize, r: &mut Numbers) {
         let holder = r.index(self.holders());
         let pairs = || self.pre_ra[intertie].iter().zip(&self.existing[intertie]);
-        let claims: u64 = pairs().map(|(&kw, &existing)| kw.saturating_sub(existing)).sum();
+        let claims: u64 = pairs()
+            .map(|(&kw, &existing)| kw.saturating_sub(existing))
+            .sum();
         let unused = self.existing[intertie][holder].saturating_sub(self.pre_ra[intertie][holder]);
         let kw = (self.left[intertie] + r.below(2)).saturating_sub(claims) + unused;
         if self.draft.room() > 0 && (1..=MOST_KW).contains(&kw) {
@@ -313,8 +396,16 @@ impl Plan {
 
     /// An intertie, rather a popular one, and a holder, rather a low one.
     fn pair(&self, popular: &[usize], r: &mut Numbers) -> (usize, usize) {
-        let intertie = if popular.is_empty() || r.once_in(4) { r.index(self.interties()) } else { r.one_of(popular) };
-        let low = if r.once_in(4) { self.holders().min(3) } else { self.holders() };
+        let intertie = if popular.is_empty() || r.once_in(4) {
+            r.index(self.interties())
+        } else {
+            r.one_of(popular)
+        };
+        let low = if r.once_in(4) {
+            self.holders().min(3)
+        } else {
+            self.holders()
+        };
         (intertie, r.index(low))
     }
 }
@@ -341,7 +432,9 @@ fn crowded(interties: usize, r: &mut Numbers) -> Option<(usize, usize)> {
 
 /// The limits: all alike or any, now and then 0.
 fn limits(interties: usize, r: &mut Numbers) -> Vec<u64> {
-    let most = r.one_of(&[3, 20, 100, 5_000, 5_000, 1_000_000, 1_000_000, MOST_KW, MOST_KW]);
+    let most = r.one_of(&[
+        3, 20, 100, 5_000, 5_000, 1_000_000, 1_000_000, MOST_KW, MOST_KW,
+    ]);
     let style = r.below(50);
     let limit = |_| match style {
         0 => 0,
@@ -369,7 +462,13 @@ fn pair_key(kind: u32, (intertie, holder): (usize, usize), rank: u32, r: &mut Nu
         0 => r.one_of(&[1, MAX_YEARS]),
         _ => 1 + r.below(MAX_YEARS.into()) as u32,
     };
-    Key { kind, holder: holder as u32, intertie: intertie as u32, rank, years }
+    Key {
+        kind,
+        holder: holder as u32,
+        intertie: intertie as u32,
+        rank,
+        years,
+    }
 }
 
 /// A quantity from 1 to `most`, often at one of the ends.
@@ -384,7 +483,8 @@ fn part(most: u64, r: &mut Numbers) -> u64 {
 
 /// A quantity just below, at or above `kw`, or half of it, or twice.
 fn near(kw: u64, r: &mut Numbers) -> u64 {
-    r.one_of(&[kw - 1, kw, kw + 1, kw / 2, 2 * kw]).clamp(1, MOST_KW)
+    r.one_of(&[kw - 1, kw, kw + 1, kw / 2, 2 * kw])
+        .clamp(1, MOST_KW)
 }
 
 /// The kW of records that together have `kw`, each as large as a record may be, the last one smaller.

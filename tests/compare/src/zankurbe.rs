@@ -31,8 +31,20 @@ extern "C" {
     ) -> RawAnswer;
     fn zankurbe_sheet_refusal(sheet: *const u8, sheet_len: usize) -> u32;
     fn zankurbe_state_refusal(state: *const u32, state_len: usize) -> u32;
-    fn zankurbe_trade(state: *mut u32, state_len: usize, seller: u32, buyer: u32, kw: u64) -> RawAnswer;
-    fn zankurbe_request(state: *mut u32, state_len: usize, holder: u32, intertie: u32, kw: u64) -> RawAnswer;
+    fn zankurbe_trade(
+        state: *mut u32,
+        state_len: usize,
+        seller: u32,
+        buyer: u32,
+        kw: u64,
+    ) -> RawAnswer;
+    fn zankurbe_request(
+        state: *mut u32,
+        state_len: usize,
+        holder: u32,
+        intertie: u32,
+        kw: u64,
+    ) -> RawAnswer;
     fn zankurbe_move(
         state: *mut u32,
         state_len: usize,
