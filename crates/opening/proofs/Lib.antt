@@ -4,3 +4,4 @@ pub mod VectorLaws
 pub mod PartLaws
 pub mod ClaimLaws
 pub mod ReserveLaws
+pub mod StoreLaws

@@ -2,3 +2,4 @@ pub mod Opened
 pub mod Open
 pub mod Vectors
 pub mod Reserve
+pub mod Write
