@@ -7,8 +7,8 @@ ghost use Prim.Native.Nat.{ℕ, _+_, _-_, _*_, _/_, _≤_, _<_};
 ghost use lib.ListN.{length};
 ghost use Rattle.base.specs.Sums.{sumTo};
 ghost use Rattle.base.specs.Words.{at, tab};
-ghost use Rattle.sheet.specs.Tables.{limitSlot, outsideSlot, loadShareSlot, existingSlot};
 ghost use Rattle.opening.specs.Vectors.{pairAt};
+ghost use Rattle.opening.specs.Figures.{Step2Given, Step2Taken, HeldGiven, HeldTaken};
 
 // Load Share Quantity = T × load share / all load shares, rounded down; 0 if all are 0.
 fn quantity(total: u64, load: u64, all: u64) -> u64
@@ -90,4 +90,43 @@ pub(super) fn fill_totals(held: &[u64], shares: &[u64], totals: &mut [u64])
         totals[h] = held[h] + shares[h];
         h += 1;
     }
+}
+
+// Step 2: what is available on each intertie, the holders' load shares and their Load Share
+// Quantities; answers T.
+pub(super) fn step_2(
+    kw: &[u64],
+    pools: &mut [u64],
+    loads: &mut [u64],
+    quantities: &mut [u64],
+) -> u64
+    requires { ⌜ Step2Given (now kw) (now pools) (now loads) (now quantities) ⌝ }
+    ensures { λ r. ⌜ Step2Taken (now (kw .entry)) (length (now (pools .entry))) (length (now (loads .entry))) (now (pools .exit)) (now (loads .exit)) (now (quantities .exit)) r ⌝ }
+{
+    vectors::differences(kw, &kw[OUTSIDE..], pools);
+    vectors::copy_from(kw, LOAD_SHARES, loads);
+    let total = vectors::sum_of(pools, 0, pools.len());
+    let all = vectors::sum_of(loads, 0, loads.len());
+    fill_quantities(total, all, loads, quantities);
+    total
+}
+
+// Steps 5 to 7: what each holder holds, its Step 5 share and its Step 7 total.
+pub(super) fn steps_5_to_7(
+    total: u64,
+    interties: usize,
+    loads: &[u64],
+    existing: &[u64],
+    pre_ra: &[u64],
+    new_use: &[u64],
+    held: &mut [u64],
+    shares: &mut [u64],
+    totals: &mut [u64],
+)
+    requires { ⌜ HeldGiven total interties (now loads) (now existing) (now «pre_ra») (now «new_use») (now held) (now shares) (now totals) ⌝ }
+    ensures { λ _. ⌜ HeldTaken total interties (now (loads .entry)) (now (existing .entry)) (now («pre_ra» .entry)) (now («new_use» .entry)) (now (held .exit)) (now (shares .exit)) (now (totals .exit)) ⌝ }
+{
+    fill_held(interties, existing, pre_ra, new_use, held);
+    step5::step5_shares(total, held, loads, shares);
+    fill_totals(held, shares, totals);
 }

@@ -4,6 +4,7 @@ use mathlib.Core.Path.{_≡_, refl, sym, _∙_}
 use mathlib.Core.Bool.{Bool, true, false, _&&_, not, false≢true}
 use mathlib.Core.List.{List}
 use native.Mathlib.Omega.{arith}
+use lib.ListN.{length}
 use native.Mathlib.Nat.{le-trans, mul-le-mul-left, mul-le-mul-right}
 use borrow.Author.Tests.{eqb-true, leb-true, ltb-true, not-false}
 use lib.Dec.{leb, eqb}
@@ -160,6 +161,10 @@ module _ (s : List ℕ) (few : count s ≤ 1024) (some : 1 ≤ interties s) (rul
       (λ k b t. let e = new-use-kind h r k t in let p = each-kept k b .placed (λ n. omega arith) in omega arith) in
       let most : top * howMany s (isNewUse h r) ≤ top * 1 = mul-le-mul-left top (one-rank h r l m) in
       omega arith
+
+-- its first three words are there
+pub first-words : (s : List ℕ) → sheetRefusal s ≡ 0 → 12 ≤ length s
+first-words s e = omega (arith, whole s (count s) (conditions s e .0) refl .exact)
 
 pub standing : (s : List ℕ) → sheetRefusal s ≡ 0 → Stands s
 unfolding limitsHold

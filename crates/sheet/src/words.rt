@@ -1,9 +1,11 @@
 // The words of a sheet, and refusal number 1, which says how many there are.
 ghost use mathlib.Core.Path.{_≡_};
 ghost use Prim.Native.Nat.{_+_, _≤_, _<_};
+ghost use lib.Dec.{ltb};
 ghost use lib.ListN.{length};
+ghost use Rattle.base.specs.Choice.{pick};
 ghost use Rattle.base.specs.Words.{at};
-ghost use Rattle.sheet.specs.Sheet.{wordAt};
+ghost use Rattle.sheet.specs.Sheet.{wordAt, interties, holders};
 ghost use Rattle.sheet.specs.Refusal.{badLength};
 
 fn byte(sheet: &[u8], place: usize) -> u32
@@ -37,4 +39,24 @@ pub fn bad_length(sheet: &[u8]) -> bool
         return true;
     }
     sheet.len() != 12 + 8 * count
+}
+
+// I, 0 where the sheet is under 12 bytes.
+pub fn intertie_count(sheet: &[u8]) -> u32
+    ensures { λ r. ⌜ r ≡ pick (ltb (length (now (sheet .entry))) 12) 0 (interties (now (sheet .entry))) ⌝ }
+{
+    if sheet.len() < 12 {
+        return 0;
+    }
+    word(sheet, 0)
+}
+
+// H, 0 where the sheet is under 12 bytes.
+pub fn holder_count(sheet: &[u8]) -> u32
+    ensures { λ r. ⌜ r ≡ pick (ltb (length (now (sheet .entry))) 12) 0 (holders (now (sheet .entry))) ⌝ }
+{
+    if sheet.len() < 12 {
+        return 0;
+    }
+    word(sheet, 4)
 }

@@ -1,3 +1,5 @@
 pub mod SwapLaws
 pub mod BoundLaws
 pub mod AgreeLaws
+pub mod AcceptedLaws
+pub mod SheetValid

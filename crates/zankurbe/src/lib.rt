@@ -1,14 +1,22 @@
 // The library as C and Rust link it: every call under one prefix. A slice is a pointer and a count.
 use base::Answer;
+use posting::NUMBERS;
+use same::Verdict;
 ghost use mathlib.Core.Path.{_≡_};
 ghost use Rattle.share_out.specs.Rule.{shareOut};
 ghost use Rattle.sheet.specs.Refusal.{sheetRefusal};
 ghost use Rattle.state.specs.Orderly.{stateRefusal};
+ghost use Rattle.opening.specs.Open.{opened};
+ghost use Rattle.posting.specs.Post.{posted};
+ghost use Rattle.same.specs.Same.{compared};
 ghost use Rattle.trading.specs.Trade.{trade};
 ghost use Rattle.trading.specs.Request.{request};
 ghost use Rattle.holding.specs.Move.{move};
 ghost use Rattle.holding.specs.Lock.{lock};
 ghost use Rattle.taking.specs.Take.{take};
+ghost use Rattle.closing.specs.Close.{close};
+ghost use Rattle.lists.specs.Encoded.{run};
+ghost use Rattle.carrying.specs.Carry.{carried};
 
 // Shares a pool out over claims by weight (share_out::share_out).
 #[no_mangle]
@@ -37,6 +45,30 @@ pub extern "C" fn zankurbe_state_refusal(state: &[u32]) -> u32
     ensures { λ r. ⌜ r ≡ stateRefusal (now (state .entry)) ⌝ }
 {
     state::state_refusal(state)
+}
+
+// Opens the year from a sheet (Steps 1 to 7); answers T.
+#[no_mangle]
+pub extern "C" fn zankurbe_open(sheet: &[u8], state: &mut [u32]) -> Answer
+    ensures { λ r. ⌜ (r ≡ opened (now (sheet .entry)) (now (state .entry)) .answer) × (now (state .exit) ≡ opened (now (sheet .entry)) (now (state .entry)) .state) ⌝ }
+{
+    opening::open(sheet, state)
+}
+
+// Posts a sheet: T, and the numbers of its lines in ten rows of 48 (posting::post).
+#[no_mangle]
+pub extern "C" fn zankurbe_post(sheet: &[u8], lines: &mut [u64; NUMBERS]) -> Answer
+    ensures { λ r. ⌜ (r ≡ posted (now (sheet .entry)) (now (lines .entry)) .answer) × (now (lines .exit) ≡ posted (now (sheet .entry)) (now (lines .entry)) .lines) ⌝ }
+{
+    posting::post(sheet, lines)
+}
+
+// Says whether two sheets open to equal states, or refuses the first or the second.
+#[no_mangle]
+pub extern "C" fn zankurbe_same(first: &[u8], second: &[u8]) -> Verdict
+    ensures { λ r. ⌜ r ≡ compared (now (first .entry)) (now (second .entry)) ⌝ }
+{
+    same::same(first, second)
 }
 
 // Trades unplaced kW from one holder to another (stage 1).
@@ -95,4 +127,40 @@ pub extern "C" fn zankurbe_take(
     ensures { λ r. ⌜ (r ≡ take (now (state .entry)) holder intertie kw day .answer) × (now (state .exit) ≡ take (now (state .entry)) holder intertie kw day .state) ⌝ }
 {
     taking::take(state, holder, intertie, kw, day)
+}
+
+// Closes the stage (1 to 3): grants what is pending, writes the grants and raises the stage.
+#[no_mangle]
+pub extern "C" fn zankurbe_close(state: &mut [u32], grants: &mut [u32]) -> Answer
+    ensures { λ r. ⌜ (r ≡ close (now (state .entry)) (now (grants .entry)) .answer)
+        × (now (state .exit) ≡ close (now (state .entry)) (now (grants .entry)) .state)
+        × (now (grants .exit) ≡ close (now (state .entry)) (now (grants .entry)) .grants) ⌝ }
+{
+    closing::close(state, grants)
+}
+
+// Runs a list of calls, six words each; closings are lent 1,536 words of the grants each, and every
+// call gets three words of the answers. False, and nothing touched, where the words are no such list.
+#[no_mangle]
+pub extern "C" fn zankurbe_run_calls(
+    calls: &[u32],
+    state: &mut [u32],
+    grants: &mut [u32],
+    answers: &mut [u64],
+) -> bool
+    ensures { λ r. ⌜ (r ≡ run (now (calls .entry)) (now (state .entry)) (now (grants .entry)) (now (answers .entry)) .done)
+        × (now (state .exit) ≡ run (now (calls .entry)) (now (state .entry)) (now (grants .entry)) (now (answers .entry)) .state)
+        × (now (grants .exit) ≡ run (now (calls .entry)) (now (state .entry)) (now (grants .entry)) (now (answers .entry)) .grants)
+        × (now (answers .exit) ≡ run (now (calls .entry)) (now (state .entry)) (now (grants .entry)) (now (answers .entry)) .answers) ⌝ }
+{
+    lists::run_calls(calls, state, grants, answers)
+}
+
+// Writes next year's sheet into the output (stage 4), from this year's sheet and state.
+#[no_mangle]
+pub extern "C" fn zankurbe_carry(sheet: &[u8], state: &[u32], output: &mut [u8]) -> Answer
+    ensures { λ r. ⌜ (r ≡ carried (now (sheet .entry)) (now (state .entry)) (now (output .entry)) .answer)
+        × (now (output .exit) ≡ carried (now (sheet .entry)) (now (state .entry)) (now (output .entry)) .output) ⌝ }
+{
+    carrying::carry(sheet, state, output)
 }

@@ -1,11 +1,16 @@
 //! The place of every named word of the year's state, as docs/STATE.md gives it: the words stand in rows
 //! of 48, and a field of the pairs has a row for each holder.
 
+use crate::numbers::Numbers;
 use independent::share_out::MAX_HOLDERS;
 use independent::year::{PerHolder, PerIntertie, PerPair, Year};
+use std::fmt::Display;
 
 /// The words of a row.
 const ROW: usize = 48;
+
+/// How many words that differ are shown.
+const SHOWN: usize = 10;
 
 /// A single word of the state: its name, its row and column, and its value.
 type Word = (&'static str, usize, usize, fn(&Year) -> u32);
@@ -185,4 +190,45 @@ pub fn name(at: usize) -> String {
         Some((name, first, ..)) => format!("{name} of holder {} on intertie {column}", row - first),
         None => "no named word".to_string(),
     }
+}
+
+/// The place of a named word of a year of `interties` and `holders`, each sort of word alike.
+pub fn any_place(interties: usize, holders: usize, r: &mut Numbers) -> usize {
+    let fields = SINGLE.len() + PER_INTERTIE.len() + PER_HOLDER.len() + PER_PAIR.len();
+    let mut field = r.index(fields);
+    if let Some((_, row, column, _)) = SINGLE.get(field) {
+        return place(*row, *column);
+    }
+    field -= SINGLE.len();
+    if let Some((_, row, ..)) = PER_INTERTIE.get(field) {
+        return place(*row, r.index(interties));
+    }
+    field -= PER_INTERTIE.len();
+    if let Some((_, row, ..)) = PER_HOLDER.get(field) {
+        return place(*row, r.index(holders));
+    }
+    let first = PER_PAIR[field - PER_HOLDER.len()].1;
+    place(first + r.index(holders), r.index(interties))
+}
+
+/// The words that the library and the independent program differ in: how many, and the first few by place
+/// and name.
+pub fn differences<Word: PartialEq + Display>(
+    ours: &[Word],
+    theirs: &[Word],
+    name: impl Fn(usize) -> String,
+) -> String {
+    let unlike = || (0..ours.len()).filter(|&at| ours[at] != theirs[at]);
+    let shown: String = unlike()
+        .take(SHOWN)
+        .map(|at| {
+            format!(
+                "\n    word {at}, {}: library {}, independent {}",
+                name(at),
+                ours[at],
+                theirs[at]
+            )
+        })
+        .collect();
+    format!("{} words differ{shown}", unlike().count())
 }

@@ -45,6 +45,21 @@ impl Numbers {
         self.below(n as u64) as usize
     }
 
+    /// So many bytes of noise.
+    pub fn bytes(&mut self, count: usize) -> Vec<u8> {
+        (0..count).map(|_| self.next() as u8).collect()
+    }
+
+    /// So many words of noise.
+    pub fn words(&mut self, count: usize) -> Vec<u32> {
+        (0..count).map(|_| self.next() as u32).collect()
+    }
+
+    /// So many words of 64 bits of noise.
+    pub fn wide_words(&mut self, count: usize) -> Vec<u64> {
+        (0..count).map(|_| self.next()).collect()
+    }
+
     /// Puts the values into any order.
     pub fn shuffle<T>(&mut self, values: &mut [T]) {
         for at in (1..values.len()).rev() {

@@ -14,6 +14,7 @@ const MOST_KW: u64 = MAX_KW as u64;
 const MOST_SHARE: u64 = MAX_LOAD_SHARE as u64;
 
 /// A sheet before it becomes bytes.
+#[derive(Clone, PartialEq)]
 pub struct Draft {
     pub interties: u32,
     pub holders: u32,
@@ -411,7 +412,7 @@ impl Plan {
 }
 
 /// The sizes of a sheet: the largest, and small ones more often than others.
-fn sizes(r: &mut Numbers) -> (usize, usize) {
+pub fn sizes(r: &mut Numbers) -> (usize, usize) {
     let (interties, holders) = match r.below(16) {
         0 | 1 => return (MAX_INTERTIES, MAX_HOLDERS),
         2 | 3 => (MAX_INTERTIES, MAX_HOLDERS),

@@ -1,0 +1,10 @@
+pub mod KeyLaws
+pub mod LineLaws
+pub mod DraftLaws
+pub mod FitLaws
+pub mod CarryLaws
+pub mod LineSums
+pub mod StandLaws
+pub mod RankLaws
+pub mod NewSheetLaws
+pub mod NextSheetLaws

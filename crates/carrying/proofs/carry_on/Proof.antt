@@ -1,0 +1,68 @@
+-- `carry_on` meets its contract: refused with 14, or written (`CarryLaws`).
+use native.Mathlib.Omega.{arith}
+use borrow.Author.Needs.{needs}
+use denote.Ref.{now}
+use Rattle.carrying.proofs.CarryLaws.{state-stands, answers-refused, draft-unfit, draft-few, draft-room, draft-written}
+use Rattle.carrying.proofs.carry_on.Statement.{statement}
+use Rattle.carrying.proofs.carry_on.Tie as tie
+
+word-requires : tie.Need-word-requires
+word-requires c κs = search needs
+
+word-requires-2 : tie.Need-word-requires-2
+word-requires-2 c κs = search needs
+
+draft-requires : tie.Need-draft-requires
+draft-requires c κs = search needs
+
+cast-does-not-fit : tie.Need-cast-does-not-fit
+cast-does-not-fit c = search needs
+
+does-not-fit-requires : tie.Need-does-not-fit-requires
+does-not-fit-requires c κs =
+    let o = state-stands _ _ (c .before .before .before .before .before .before .before .before .before .before .pre .0) in
+    (omega (arith, o .holders-most, c .before .before .before .before .before .word2 .ensures), c .before .draft .ensures .0)
+
+refused-requires : tie.Need-refused-requires
+refused-requires c κs = search needs
+
+returns : tie.Need-returns
+returns c =
+    let a = c .before .before .before .before .before .before .before .before .before .before .before .before .before .args in
+    answers-refused (now (a .sheet)) (now (a .state)) (now (a .output)) 14 (omega arith)
+    (draft-unfit (now (a .sheet)) (now (a .state)) (now (a .output)) (c .before .before .before .before .before .before .before .before .before .before .before .before .before .pre .0) (c .before .before .before .before .before .before .before .before .before .before .before .before .before .pre .1) _ _ _ _ (c .before .before .before .before .draft .ensures .1) _ (c .before .before .before .before .before .before .before .before .word2 .ensures) _ (c .before .before .does-not-fit .ensures) (c .before .if1 .taken)) _ (c .refused .ensures)
+
+write-sheet-requires : tie.Need-write-sheet-requires
+write-sheet-requires c κs =
+    let a = c .before .before .before .before .before .before .before .before .before .before .before .before .before .before .before .args in (
+      draft-few (now (a .sheet)) (now (a .state)) (now (a .output)) (c .before .before .before .before .before .before .before .before .before .before .before .before .before .before .before .pre .0) (c .before .before .before .before .before .before .before .before .before .before .before .before .before .before .before .pre .1) _ _ _ _ (c .before .before .before .before .before .before .draft .ensures .1) _ (c .before .before .before .before .before .before .before .before .before .before .word2 .ensures) _ (c .before .before .before .before .does-not-fit .ensures) (c .before .before .before .if1 .left),
+      draft-room (now (a .sheet)) (now (a .state)) (now (a .output)) (c .before .before .before .before .before .before .before .before .before .before .before .before .before .before .before .pre .0) (c .before .before .before .before .before .before .before .before .before .before .before .before .before .before .before .pre .1) _ _ _ _ (c .before .before .before .before .before .before .draft .ensures .1) _ (c .before .before .before .before .before .before .before .before .before .before .word2 .ensures) _ (c .before .before .before .before .does-not-fit .ensures) (c .before .before .before .if1 .left),
+    )
+
+granted-requires : tie.Need-granted-requires
+granted-requires c κs = search needs
+
+same-length : tie.Need-same-length
+same-length c = search needs
+
+returns-2 : tie.Need-returns-2
+returns-2 c =
+    let a = c .before .before .before .before .before .before .before .before .before .before .before .before .before .before .before .before .before .before .before .args in
+    draft-written (now (a .sheet)) (now (a .state)) (now (a .output)) (c .before .before .before .before .before .before .before .before .before .before .before .before .before .before .before .before .before .before .before .pre .0) (c .before .before .before .before .before .before .before .before .before .before .before .before .before .before .before .before .before .before .before .pre .1) _ _ _ _ (c .before .before .before .before .before .before .before .before .before .before .draft .ensures .1) _ (c .before .before .before .before .before .before .before .before .before .before .before .before .before .before .word2 .ensures) _ (c .before .before .before .before .before .before .before .before .does-not-fit .ensures) _ _ _ (c .before .before .before .before .before .before .before .if1 .left)
+    (λ i. c .before .before .before .before .before .before .before .before .before .before .before .before .before .before .before .before .before .before .shared-slice-known .given i .fits) (c .before .before .before .before .before .before .before .before .before .before .before .before .before .before .before .word .ensures) (c .before .before .before .write-sheet .ensures) (c .granted .ensures)
+
+pub carry-on-spec : {M : Type 1} → statement M
+carry-on-spec =
+    tie.close
+    (tie.spec
+    word-requires
+    word-requires-2
+    draft-requires
+    cast-does-not-fit
+    does-not-fit-requires
+    refused-requires
+    returns
+    write-sheet-requires
+    granted-requires
+    same-length
+    returns-2)

@@ -1,0 +1,22 @@
+-- `draft` meets its contract: the records that go on, then the locks.
+use denote.Ref.{now}
+use Rattle.carrying.specs.Lines.{nextLines}
+use Rattle.carrying.proofs.CarryLaws.{length-stands, state-stands, few-records}
+use Rattle.carrying.proofs.DraftLaws.{kept-bounded}
+use Rattle.carrying.proofs.draft.Statement.{statement}
+use Rattle.carrying.proofs.draft.Tie as tie
+
+keep-records-requires : tie.Need-keep-records-requires
+keep-records-requires c κs = (length-stands _ _ (c .before .before .before .before .before .pre .0), c .before .before .before .before .before .pre .1, c .before .before .before .before .before .pre .2)
+
+add-locks-requires : tie.Need-add-locks-requires
+add-locks-requires c κs =
+    let o = state-stands _ _ (c .before .before .before .before .before .before .before .before .before .pre .0) in
+    (o .interties-most, o .holders-most, kept-bounded _ _ _ (now (c .before .before .before .before .before .before .before .before .before .args .sheet)) _ _ (c .before .before .before .keep-records .ensures) (few-records _ _ (c .before .before .before .before .before .before .before .before .before .pre .0)))
+
+returns : tie.Need-returns
+unfolding nextLines
+returns c = (c .add-locks .ensures .0, c .add-locks .ensures .1 _ (c .before .before .before .before .keep-records .ensures))
+
+pub draft-spec : {M : Type 1} → statement M
+draft-spec = tie.close (tie.spec keep-records-requires add-locks-requires returns)

@@ -1,0 +1,58 @@
+-- Carry: next year's sheet, from this year's sheet and state (document 01, "Beside the year").
+use Prim.Native.Nat.{ℕ}
+use mathlib.Core.Bool.{Bool, _&&_, _||_, not}
+use mathlib.Core.List.{List}
+use lib.Dec.{eqb, ltb, leb}
+use lib.ListN.{length}
+use Rattle.base.specs.Choice.{pick}
+use Rattle.base.specs.Sums.{allTo}
+use Rattle.base.specs.Words.{fill}
+use Rattle.base.specs.Answers.{refused, granted}
+use Rattle.base.specs.declared.Answer.{Answer}
+use Rattle.sheet.specs.Sheet as Sheet
+use Rattle.sheet.specs.Refusal.{sheetRefusal}
+use Rattle.state.specs.Layout as Layout
+use Rattle.state.specs.Orderly.{stateRefusal}
+use Rattle.call.specs.Outcome.{orElse, whenever}
+use Rattle.carrying.specs.Line.{Line}
+use Rattle.carrying.specs.Lines.{highest, nextLines}
+use Rattle.carrying.specs.NewSheet.{sizeOf, newByte}
+
+-- numbers 1 to 4 of the old sheet, 5 and 6 of the state, 7 where the stage is not 4
+unfoldable pub earlyRefusal : List ℕ → List ℕ → ℕ
+earlyRefusal sheet state =
+    orElse (sheetRefusal sheet) (orElse (stateRefusal state) (whenever (not (eqb (Layout.stageOf state) 4)) 7))
+
+-- number 14: the sheet's sizes differ from the state's
+unfoldable pub sizesDiffer : List ℕ → List ℕ → Bool
+sizesDiffer sheet state =
+    not (eqb (Sheet.interties sheet) (Layout.interties state) && eqb (Sheet.holders sheet) (Layout.holders state))
+
+-- over 1,024 records; a holder's rank over 255; an output that is too short
+unfoldable pub doesNotFit : ℕ → List Line → ℕ → Bool
+doesNotFit H lines room =
+    ltb 1024 (length lines)
+    || not (allTo H (λ h. leb (highest h lines) 255))
+    || ltb room (sizeOf (length lines))
+
+-- the lowest number that applies, 0 where the sheet is carried
+unfoldable pub carryRefusal : List ℕ → List ℕ → List ℕ → ℕ
+carryRefusal sheet state output =
+    orElse (earlyRefusal sheet state)
+    (whenever (sizesDiffer sheet state || doesNotFit (Layout.holders state) (nextLines sheet state) (length output)) 14)
+
+pub record Carried : Type 0 where
+  pub answer : Answer
+  pub output : List ℕ
+
+-- next year's sheet in the first bytes of the output; its later bytes stay, and a refusal leaves them all
+unfoldable pub carried : List ℕ → List ℕ → List ℕ → Carried
+carried sheet state output =
+    pick (eqb (carryRefusal sheet state output) 0)
+    (record {
+      answer = granted 0 0;
+      output =
+          fill (sizeOf (length (nextLines sheet state)))
+          (newByte (Layout.interties state) (Layout.holders state) (nextLines sheet state)) output;
+    })
+    (record { answer = refused (carryRefusal sheet state output); output = output })

@@ -1,0 +1,5 @@
+pub mod Line
+pub mod Lines
+pub mod NewSheet
+pub mod Carry
+pub mod Draft

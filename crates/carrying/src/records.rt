@@ -1,0 +1,84 @@
+// The old sheet's records that go on, drafted in their order.
+ghost use mathlib.Core.Path.{_≡_};
+ghost use mathlib.Core.Bool.{false};
+ghost use mathlib.Core.List.{List, _++_};
+ghost use Prim.Native.Nat.{_<_, max};
+ghost use lib.ListN.{length};
+ghost use Rattle.sheet.specs.Sheet.{count};
+ghost use Rattle.sheet.specs.Refusal.{badLength};
+ghost use Rattle.sheet.specs.Key.{holderOf};
+ghost use Rattle.carrying.specs.Line.{Line};
+ghost use Rattle.carrying.specs.Lines.{nextLine, keptOf, kept, rankFor};
+ghost use Rattle.carrying.specs.Draft.{places, Drafted};
+use crate::key;
+use sheet::cursor::Cursor;
+use sheet::cursor::Read;
+
+// The places of a draft: 1,024 old records and a lock for each of 32 · 48 pairs.
+pub(crate) const PLACES: usize = 2560;
+
+// The holders that a key can name.
+pub(crate) const HOLDERS: usize = 64;
+
+// The higher of a rank and that of a New Use commitment.
+fn raised(rank: u32, key: u32) -> u32
+    ensures { λ r. ⌜ r ≡ max rank (rankFor (holderOf key) (nextLine key 0)) ⌝ }
+{
+    if sheet::key::kind(key) != 6 {
+        return rank;
+    }
+    let other = sheet::key::rank(key);
+    if other <= rank {
+        return rank;
+    }
+    other
+}
+
+// Drafts a record at a place if it goes on, and gives the place after it.
+fn keep_record(
+    key: u32,
+    kw: u32,
+    place: usize,
+    keys: &mut [u32; PLACES],
+    kws: &mut [u32; PLACES],
+    ranks: &mut [u32; HOLDERS],
+) -> usize
+    requires { ⌜ place < places ⌝ }
+    ensures { λ r. ⌜ ((l : List Line) → Drafted (now (keys .entry)) (now (kws .entry)) (now (ranks .entry)) place l
+        → Drafted (now (keys .exit)) (now (kws .exit)) (now (ranks .exit)) r (l ++ keptOf key kw)) ⌝ }
+{
+    if !key::goes_on(key) {
+        return place;
+    }
+    keys[place] = key::next_key(key);
+    kws[place] = kw;
+    let holder = sheet::key::holder(key) as usize;
+    ranks[holder] = raised(ranks[holder], key);
+    place + 1
+}
+
+// Drafts what goes on of a sheet that number 1 lets pass, and gives the number of lines.
+pub(crate) fn keep_records(
+    sheet: &[u8],
+    keys: &mut [u32; PLACES],
+    kws: &mut [u32; PLACES],
+    ranks: &mut [u32; HOLDERS],
+) -> usize
+    requires { ⌜ (badLength (now sheet) ≡ false) × (length (now keys) ≡ places) × (length (now kws) ≡ places) ⌝ }
+    ensures { λ r. ⌜ Drafted (now (keys .exit)) (now (kws .exit)) (now (ranks .exit)) r
+        (kept (now (sheet .entry)) (count (now (sheet .entry)))) ⌝ }
+{
+    *ranks = [0; HOLDERS];
+    let mut drafted = 0;
+    let mut cursor = Cursor::first();
+    loop {
+        let read = cursor.read(sheet);
+        match read {
+            Read::Next(record, next) => {
+                drafted = keep_record(record.key, record.kw, drafted, keys, kws, ranks);
+                cursor = next;
+            }
+            Read::End => return drafted,
+        }
+    }
+}

@@ -1,0 +1,9 @@
+pub mod UniformLaws
+pub mod TableLaws
+pub mod WeightLaws
+pub mod SharingLaws
+pub mod StoreLaws
+pub mod ClosedLaws
+pub mod GrantLaws
+pub mod CloseLaws
+pub mod AcceptedLaws

@@ -1,0 +1,88 @@
+-- `copy_rows` meets its contract: after m turns the rows of the first m holders are copied.
+use Prim.Native.Nat.{ℕ, _-_, _*_, _/_, _%_, _≤_}
+use mathlib.Core.Path.{_≡_, refl, sym, ap, _∙_}
+use mathlib.Core.List.{List}
+use native.Mathlib.Nat.{zero-mul}
+use native.Mathlib.Omega.{arith}
+use lib.ListN.{length}
+use denote.Ref.{now}
+use Rattle.base.specs.Words.{fill}
+use Rattle.base.proofs.WordLaws.{fill-zero}
+use Rattle.interties.specs.Pairs.{atPair}
+use Rattle.closing.proofs.TableLaws.{rows-further, next-row}
+use Rattle.closing.proofs.buffer.copy_rows.Statement.{statement}
+use Rattle.closing.proofs.buffer.copy_rows.Tie as tie
+use borrow.Author.Needs.{needs}
+
+-- the number of a place of the buffer
+abbrev word : List ℕ → ℕ → ℕ → ℕ
+word table interties p = atPair table (p / interties) (p % interties)
+
+abbrev Inv-loop : tie.InvT-loop
+Inv-loop table holders interties grants₀ next₀ holder₀ grants next holder =
+    (holder ≤ holders) × (next ≤ 48 * holder) × (next ≡ holder * interties) × (length grants ≡ length grants₀) × (grants ≡ fill next (word table interties) grants₀)
+
+abbrev μ-loop : tie.MeasureT-loop
+μ-loop table holders interties grants₀ next₀ holder₀ grants next holder = holders - holder
+
+loop-holds : tie.Need-loop-holds Inv-loop μ-loop
+loop-holds c = (search needs, search needs, sym (zero-mul (c .before .before .args .interties)), refl, sym (fill-zero _ _))
+
+mul-copy-row : tie.Need-mul-copy-row Inv-loop μ-loop
+mul-copy-row c = search needs
+
+copy-row-requires : tie.Need-copy-row-requires Inv-loop μ-loop
+copy-row-requires c κs =
+    let p = c .before .before .before .before .before .pre in
+    let m = c .before .before .loop .holder in (
+      omega arith,
+      omega (arith, c .before .before .loop .inv .3),
+      λ i l. p .4 m i (c .before .loop-test .taken) l,
+    )
+
+add-next : tie.Need-add-next Inv-loop μ-loop
+add-next c = search needs
+
+add-holder : tie.Need-add-holder Inv-loop μ-loop
+add-holder c = search needs
+
+loop-less : tie.Need-loop-less Inv-loop μ-loop
+loop-less c = search needs
+
+loop-again : tie.Need-loop-again Inv-loop μ-loop
+loop-again c =
+    let a = c .before .before .before .before .before .before .before .before .args in
+    let m = c .before .before .before .before .before .loop .holder in
+    let inv = c .before .before .before .before .before .loop .inv in (
+      search needs,
+      omega (arith, inv .1, c .before .before .before .before .before .before .before .before .pre .1),
+      next-row (a .interties) m (c .before .before .before .before .before .loop .next) (inv .2),
+      c .before .before .copy-row .kept .1 .1 .1 .0 ∙ inv .3,
+      rows-further (a .interties) m (now (a .table)) (c .before .before .before .before .before .loop .grants) _ (now (a .grants)) (c .before .before .before .before .before .loop .next) (inv .2) (inv .4) (c .before .before .copy-row .ensures),
+    )
+
+same-length : tie.Need-same-length Inv-loop μ-loop
+same-length c = c .before .loop .inv .3
+
+returns : tie.Need-returns Inv-loop μ-loop
+returns c =
+    let a = c .before .before .before .before .args in
+    let end : c .before .loop .holder ≡ a .holders = omega arith in
+    let all : c .before .loop .next ≡ a .holders * a .interties = c .before .loop .inv .2 ∙ ap (λ n. n * a .interties) end in
+    c .before .loop .inv .4 ∙ ap (λ n. fill n (word (now (a .table)) (a .interties)) (now (a .grants))) all
+
+pub copy-rows-spec : {M : Type 1} → statement M
+copy-rows-spec =
+    tie.close
+    (tie.spec
+    Inv-loop
+    μ-loop
+    loop-holds
+    mul-copy-row
+    copy-row-requires
+    add-next
+    add-holder
+    loop-less
+    loop-again
+    same-length
+    returns)

@@ -1,0 +1,92 @@
+-- `share_out_pending` meets its contract: pools, claims and weights are the state's, and the share-outs are those of the closing.
+use Prim.Native.Nat.{_+_, _*_, _≤_}
+use native.Mathlib.Omega.{arith}
+use denote.Ref.{now}
+use Rattle.state.proofs.OrderlyLaws.{refusal-none}
+use Rattle.closing.proofs.TableLaws.{length-zeros, at-zeros}
+use Rattle.closing.proofs.SharingLaws.{pending-shared}
+use borrow.Author.Needs.{needs}
+use Rattle.closing.proofs.sharing.share_out_pending.Statement.{statement}
+use Rattle.closing.proofs.sharing.share_out_pending.Tie as tie
+
+intertie-count-requires : tie.Need-intertie-count-requires
+intertie-count-requires c κs = search needs
+
+holder-count-requires : tie.Need-holder-count-requires
+holder-count-requires c κs = search needs
+
+cast-add-row : tie.Need-cast-add-row
+cast-add-row c = search needs
+
+slice-aggregate-add-row : tie.Need-slice-aggregate-add-row
+slice-aggregate-add-row c = search needs
+
+add-row-requires : tie.Need-add-row-requires
+add-row-requires c κs =
+    let o = refusal-none _ (c .before .before .before .before .before .pre .0 .fit) in
+    let few : c .before .before .intertie-count .result ≤ 48 = omega (arith, c .before .before .intertie-count .ensures, o .1 .interties-most) in
+    (o .0, omega arith, few, omega (arith, length-zeros 48), λ k l. omega (arith, at-zeros 48 (0 + k) (omega arith)))
+
+cast-add-pairs : tie.Need-cast-add-pairs
+cast-add-pairs c = search needs
+
+slice-aggregate-add-pairs : tie.Need-slice-aggregate-add-pairs
+slice-aggregate-add-pairs c = search needs
+
+add-pairs-requires : tie.Need-add-pairs-requires
+add-pairs-requires c κs =
+    let o = refusal-none _ (c .before .before .before .before .before .before .before .before .pre .0 .fit) in
+    let few : c .before .before .before .before .before .intertie-count .result ≤ 48 = omega (arith, c .before .before .before .before .before .intertie-count .ensures, o .1 .interties-most) in
+    let low : c .before .before .before .before .holder-count .result ≤ 32 = omega (arith, c .before .before .before .before .holder-count .ensures, o .1 .holders-most) in
+    (o .0, omega arith, low, few, omega (arith, length-zeros 1536), λ h i k l. omega (arith, at-zeros 1536 (48 * h + i) (omega arith)))
+
+slice-aggregate-weigh : tie.Need-slice-aggregate-weigh
+slice-aggregate-weigh c = search needs
+
+weigh-requires : tie.Need-weigh-requires
+weigh-requires c κs = search needs
+
+slice-aggregate-share-out-each : tie.Need-slice-aggregate-share-out-each
+slice-aggregate-share-out-each c = search needs
+
+slice-aggregate-share-out-each-2 : tie.Need-slice-aggregate-share-out-each-2
+slice-aggregate-share-out-each-2 c = search needs
+
+slice-aggregate-share-out-each-3 : tie.Need-slice-aggregate-share-out-each-3
+slice-aggregate-share-out-each-3 c = search needs
+
+share-out-each-requires : tie.Need-share-out-each-requires
+share-out-each-requires c κs = search needs
+
+same-length : tie.Need-same-length
+same-length c = search needs
+
+returns : tie.Need-returns
+returns c =
+    let a = c .before .before .before .before .before .before .before .before .before .before .before .before .before .before .before .before .before .before .before .before .args in
+    let p = c .before .before .before .before .before .before .before .before .before .before .before .before .before .before .before .before .before .before .before .before .pre in
+    let o = refusal-none _ (p .0 .fit) in
+    pending-shared (now (a .state)) (o .1) (p .0 .stage-most) _ _ _ _ _ (now (a .table)) _ _ (c .before .before .before .before .before .before .before .before .before .before .before .before .before .before .before .before .before .intertie-count .ensures) (c .before .before .before .before .before .before .before .before .before .before .before .before .before .before .before .before .holder-count .ensures)
+    (c .before .before .before .before .before .before .before .before .before .before .before .before .before .before .add-row .ensures) (c .before .before .before .before .before .before .before .before .before .before .before .add-pairs .ensures) (omega (arith, c .before .before .before .before .before .before .before .before .before .before .before .add-pairs .kept .1 .1 .1 .1 .0, length-zeros 1536)) (c .before .before .before .before .before .before .before .before .weigh .ensures) (p .1)
+    (c .before .before .share-out-each .ensures .0) (c .before .before .share-out-each .ensures .1)
+
+pub share-out-pending-spec : {M : Type 1} → statement M
+share-out-pending-spec =
+    tie.close
+    (tie.spec
+    intertie-count-requires
+    holder-count-requires
+    cast-add-row
+    slice-aggregate-add-row
+    add-row-requires
+    cast-add-pairs
+    slice-aggregate-add-pairs
+    add-pairs-requires
+    slice-aggregate-weigh
+    weigh-requires
+    slice-aggregate-share-out-each
+    slice-aggregate-share-out-each-2
+    slice-aggregate-share-out-each-3
+    share-out-each-requires
+    same-length
+    returns)

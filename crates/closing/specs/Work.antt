@@ -1,0 +1,36 @@
+-- What the workers of a closing are handed and what they leave. A table of the pairs has a row of 48 numbers for each holder.
+use Prim.Native.Nat.{ℕ, zero, suc, _+_, _-_, _≤_, _<_}
+use mathlib.Core.Path.{_≡_}
+use mathlib.Core.List.{List}
+use lib.ListN.{length, set}
+use Rattle.base.specs.Words.{at}
+use Rattle.interties.specs.Pairs.{atPair}
+use Rattle.state.specs.Layout.{interties, holders, stageOf, unassignedOf, unplacedOf, placedOf}
+use Rattle.state.specs.Orderly.{stateRefusal}
+use Rattle.closing.specs.Close.{closeGrant, grantedTo, grantedOn}
+
+-- l with f c at place `from + c` for each c below n; the other places stay
+unfoldable pub fillFrom : ℕ → ℕ → (ℕ → ℕ) → List ℕ → List ℕ
+fillFrom from zero f l = l
+fillFrom from (suc n) f l = set (fillFrom from n f l) (from + n) (f n)
+
+-- what numbers 5 to 7 leave of a state
+pub record Closable (s : List ℕ) : Type 0 where
+  pub fit : stateRefusal s ≡ 0
+  pub stage-most : stageOf s ≤ 3
+
+-- the table of this closing's grants
+pub record Granted (s table : List ℕ) : Type 0 where
+  pub size : length table ≡ 1536
+  pub pairs : (h i : ℕ) → h < holders s → i < interties s → atPair table h i ≡ closeGrant s h i
+  pub small : (h i : ℕ) → h < holders s → i < interties s → atPair table h i ≤ 20000000
+
+-- the numbers that are written into the state
+pub record Written (s unassigned unplaced placed : List ℕ) : Type 0 where
+  pub unassigned-size : 48 ≤ length unassigned
+  pub unassigned-is : (i : ℕ) → i < interties s → at unassigned i ≡ unassignedOf s i - grantedOn s i
+  pub unplaced-size : 32 ≤ length unplaced
+  pub unplaced-is : (h : ℕ) → h < holders s → at unplaced h ≡ unplacedOf s h - grantedTo s h
+  pub placed-size : 1536 ≤ length placed
+  pub placed-is : (h i : ℕ) → h < holders s → i < interties s → atPair placed h i ≡ placedOf s h i + closeGrant s h i
+  pub placed-small : (h i : ℕ) → h < holders s → i < interties s → placedOf s h i + closeGrant s h i ≤ 960000000

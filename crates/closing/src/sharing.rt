@@ -1,0 +1,34 @@
+// The share-outs of a closing: each intertie's unassigned kW over what is pending there.
+use super::tables;
+use super::weights;
+use base::Answer;
+use state::layout;
+ghost use mathlib.Core.Path.{_≡_};
+ghost use lib.ListN.{length};
+ghost use Rattle.base.specs.Answers.{granted};
+ghost use Rattle.closing.specs.Close.{closeKw, closePasses};
+ghost use Rattle.closing.specs.Work.{Closable, Granted};
+
+// Writes what each pair is granted into a table, and answers kW and passes over all interties. In
+// stage 1 nothing is pending, so nothing is granted.
+pub(super) fn share_out_pending(state: &[u32], table: &mut [u64]) -> Answer
+    requires { ⌜ Closable (now state) × (length (now table) ≡ 1536) ⌝ }
+    ensures { λ r. ⌜ (r ≡ granted (closeKw (now (state .entry))) (closePasses (now (state .entry))))
+        × Granted (now (state .entry)) (now (table .exit)) ⌝ }
+{
+    let interties = tables::intertie_count(state);
+    let holders = tables::holder_count(state);
+    let mut pools = [0u64; 48];
+    tables::add_row(state, layout::UNASSIGNED as usize, interties, &mut pools, 0);
+    let mut claims = [0u64; 1536];
+    tables::add_pairs(
+        state,
+        layout::PENDING as usize,
+        holders,
+        interties,
+        &mut claims,
+    );
+    let mut weights = [0u64; 32];
+    weights::weigh(state, &mut weights);
+    interties::share_out_each(interties, holders, &pools, &claims, &weights, table)
+}

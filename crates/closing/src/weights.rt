@@ -1,0 +1,81 @@
+// The holders' weights in a closing: the load share, or the sellers' average where that is 0.
+use state::layout;
+use state::layout::ROW_WORDS;
+ghost use mathlib.Core.Path.{_≡_};
+ghost use Prim.Native.Nat.{ℕ, _+_, _*_, _≤_, _<_};
+ghost use lib.Count.{ones};
+ghost use lib.ListN.{length};
+ghost use Rattle.base.specs.Sums.{sumTo};
+ghost use Rattle.base.specs.Words.{fill};
+ghost use Rattle.state.specs.Layout.{holders, loadShareOf};
+ghost use Rattle.closing.specs.Weight.{sellerBit, averageLoad, weightOf};
+ghost use Rattle.closing.specs.Work.{Closable};
+
+// A holder's load share if it is a seller of the mask, else 0.
+fn load_if_seller(sellers: u32, holder: u32, load: u32) -> u64
+    requires { ⌜ holder < 32 ⌝ }
+    ensures { λ r. ⌜ (r ≡ sellerBit sellers holder * load) × (r ≤ load) ⌝ }
+{
+    (((sellers >> holder) % 2) as u64) * (load as u64)
+}
+
+// The load shares of the sellers of a mask together.
+fn sellers_load(state: &[u32], sellers: u32, holders: u32) -> u64
+    requires { ⌜ (16000 ≤ length (now state)) × (holders ≤ 32) ⌝ }
+    ensures { λ r. ⌜ r ≡ sumTo holders (λ (j : ℕ). sellerBit sellers j * loadShareOf (now (state .entry)) j) ⌝ }
+{
+    let first = ROW_WORDS * (layout::LOAD_SHARE as usize);
+    let mut load: u64 = 0;
+    let mut holder = 0;
+    while holder < holders {
+        load += load_if_seller(sellers, holder, state[first + (holder as usize)]);
+        holder += 1;
+    }
+    load
+}
+
+// How many sellers a mask has: its ones.
+fn seller_count(sellers: u32) -> u64
+    ensures { λ r. ⌜ r ≡ ones sellers ⌝ }
+{
+    u32::count_ones(sellers) as u64
+}
+
+// The average load share of a holder's sellers, each counted once; 0 without sellers.
+fn average_load(state: &[u32], holder: u32) -> u64
+    requires { ⌜ Closable (now state) × (holder < holders (now state)) ⌝ }
+    ensures { λ r. ⌜ r ≡ averageLoad (now (state .entry)) holder ⌝ }
+{
+    let holders = state::word(state, layout::SIZES, layout::HOLDERS);
+    let sellers = state::word(state, layout::SELLERS, holder);
+    let count = seller_count(sellers);
+    if count == 0 {
+        return 0;
+    }
+    sellers_load(state, sellers, holders) / count
+}
+
+// A holder's weight.
+fn weight(state: &[u32], holder: u32) -> u64
+    requires { ⌜ Closable (now state) × (holder < holders (now state)) ⌝ }
+    ensures { λ r. ⌜ r ≡ weightOf (now (state .entry)) holder ⌝ }
+{
+    let load = state::word(state, layout::LOAD_SHARE, holder) as u64;
+    if load == 0 {
+        return average_load(state, holder);
+    }
+    load
+}
+
+// Writes each holder's weight.
+pub(super) fn weigh(state: &[u32], weights: &mut [u64])
+    requires { ⌜ Closable (now state) × (32 ≤ length (now weights)) ⌝ }
+    ensures { λ _. ⌜ now (weights .exit) ≡ fill (holders (now (state .entry))) (weightOf (now (state .entry))) (now (weights .entry)) ⌝ }
+{
+    let holders = state::word(state, layout::SIZES, layout::HOLDERS);
+    let mut holder = 0;
+    while holder < holders {
+        weights[holder as usize] = weight(state, holder);
+        holder += 1;
+    }
+}

@@ -1,0 +1,2 @@
+pub mod CaseG
+pub mod Table

@@ -1,0 +1,9 @@
+pub mod ChangeLaws
+pub mod GrantedLaws
+pub mod CallLaws
+pub mod ListLaws
+pub mod Demand3
+pub mod Examples
+pub mod EncodedLaws
+pub mod RunLaws
+pub mod RunBalances

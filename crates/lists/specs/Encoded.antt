@@ -1,0 +1,118 @@
+-- A list of calls as 32-bit words, six to a call, and what running it over lent words leaves.
+use Prim.Native.Nat.{ℕ, zero, suc, _+_, _*_, _/_, _%_, _^_}
+use mathlib.Core.Bool.{Bool, true, false, _&&_}
+use mathlib.Core.List.{List, [], _∷_, _++_}
+use lib.Dec.{leb, eqb}
+use lib.ListN.{length, take, drop, set}
+use Rattle.base.specs.Choice.{pick}
+use Rattle.base.specs.Sums.{sumTo, allTo}
+use Rattle.base.specs.Words.{at}
+use Rattle.base.specs.declared.Answer.{Answer}
+use Rattle.lists.specs.Calls.{Call, Result, result, after}
+use Rattle.lists.specs.Calls as Calls
+
+-- how many calls the words are
+abbrev pub callCount : List ℕ → ℕ
+callCount encoded = length encoded / 6
+
+-- the six words of call n
+abbrev pub wordsOf : List ℕ → ℕ → List ℕ
+wordsOf encoded n = take 6 (drop (6 * n) encoded)
+
+-- word 0 is the kind: 1 trade, 2 request, 3 close, 4 take, 5 move, 6 lock
+abbrev pub kindOf : List ℕ → ℕ
+kindOf words = at words 0
+
+abbrev pub knownKind : ℕ → Bool
+knownKind kind = leb 1 kind && leb kind 6
+
+abbrev pub isClosing : List ℕ → Bool
+isClosing words = eqb (kindOf words) 3
+
+-- words 1 to 3 are numbers a, b, c; words 4 and 5 are the low and the high word of the kW
+abbrev pub kwOf : ℕ → ℕ → ℕ
+kwOf low high = low + 2 ^ 32 * high
+
+-- a call that is no closing: trade a seller, b buyer; request a holder, b intertie; take a holder, b intertie, c day;
+-- move a giver, b taker, c intertie; lock a holder, b intertie, c term
+unfoldable pub numbered : (kind a b c kw : ℕ) → Call
+numbered kind a b c kw =
+    pick (eqb kind 1) (Calls.trade a b kw)
+    (pick (eqb kind 2) (Calls.request a b kw)
+    (pick (eqb kind 4) (Calls.take a b kw c)
+    (pick (eqb kind 5) (Calls.move a b c kw)
+    (Calls.lock a b kw c))))
+
+-- the call that six words are; a closing gets the words of the grants buffer that are lent to it
+abbrev pub callOf : List ℕ → List ℕ → Call
+callOf words lent =
+    pick (isClosing words) (Calls.close lent) (numbered (kindOf words) (at words 1) (at words 2) (at words 3) (kwOf (at words 4) (at words 5)))
+
+-- the closings among the first n calls
+unfoldable pub closingsBefore : List ℕ → ℕ → ℕ
+closingsBefore encoded n = sumTo n (λ m. pick (isClosing (wordsOf encoded m)) 1 0)
+
+-- closing k is lent words 1536·k to 1536·(k + 1) of the grants buffer, as many of them as there are
+abbrev pub lentTo : List ℕ → ℕ → List ℕ
+lentTo grants k = take 1536 (drop (1536 * k) grants)
+
+-- call n
+unfoldable pub callAt : List ℕ → List ℕ → ℕ → Call
+callAt encoded grants n = callOf (wordsOf encoded n) (lentTo grants (closingsBefore encoded n))
+
+-- calls 0 to n - 1, and all calls
+unfoldable pub firstCalls : List ℕ → List ℕ → ℕ → List Call
+firstCalls encoded grants zero = []
+firstCalls encoded grants (suc n) = firstCalls encoded grants n ++ (callAt encoded grants n ∷ [])
+
+abbrev pub callsOf : List ℕ → List ℕ → List Call
+callsOf encoded grants = firstCalls encoded grants (callCount encoded)
+
+-- whether the words are a list of calls, with room for three words of answer to each
+unfoldable pub accepted : List ℕ → ℕ → Bool
+accepted encoded answerWords =
+    eqb (length encoded % 6) 0
+    && leb (3 * callCount encoded) answerWords
+    && allTo (callCount encoded) (λ n. knownKind (kindOf (wordsOf encoded n)))
+
+-- the answers with the three words of call n written: refusal, kW, passes
+abbrev pub withAnswer : List ℕ → ℕ → Answer → List ℕ
+withAnswer answers n a = set (set (set answers (3 * n) (a .refusal)) (3 * n + 1) (a .kw)) (3 * n + 2) (a .passes)
+
+-- the grants after a call: a closing puts what it was lent, as it left it, back at its place; other calls leave them
+abbrev pub withLent : List ℕ → List ℕ → ℕ → List ℕ → List ℕ
+withLent words grants from lent = pick (isClosing words) (take from grants ++ (lent ++ drop (from + 1536) grants)) grants
+
+module _ (encoded s grants : List ℕ) where
+  -- what call n gives, on the state as the calls before it left it
+  abbrev pub resultAt : ℕ → Result
+  resultAt n = result (callAt encoded grants n) (after (firstCalls encoded grants n) s)
+
+  -- the grants buffer and the answers after the first n calls
+  unfoldable pub grantsAfter : ℕ → List ℕ
+  grantsAfter zero = grants
+  grantsAfter (suc n) =
+      withLent (wordsOf encoded n) (grantsAfter n) (1536 * closingsBefore encoded n) (resultAt n .grants)
+
+  unfoldable pub answersAfter : List ℕ → ℕ → List ℕ
+  answersAfter answers zero = answers
+  answersAfter answers (suc n) = withAnswer (answersAfter answers n) n (resultAt n .answer)
+
+-- what a run leaves: whether the calls were run, and the lent words
+pub record Ran : Type 0 where
+  pub done : Bool
+  pub state : List ℕ
+  pub grants : List ℕ
+  pub answers : List ℕ
+
+-- all calls in order; words that are no list of calls, or have no room for the answers, leave everything as it was
+unfoldable pub run : (encoded s grants answers : List ℕ) → Ran
+run encoded s grants answers =
+    pick (accepted encoded (length answers))
+    (record {
+      done = true;
+      state = after (callsOf encoded grants) s;
+      grants = grantsAfter encoded s grants (callCount encoded);
+      answers = answersAfter encoded s grants answers (callCount encoded);
+    })
+    (record { done = false; state = s; grants = grants; answers = answers })

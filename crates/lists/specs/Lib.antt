@@ -1,0 +1,4 @@
+pub mod Calls
+pub mod Year
+pub mod Balances
+pub mod Encoded

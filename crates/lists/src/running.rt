@@ -1,0 +1,88 @@
+// Calls run one after the other, each on the state as the call before it left it.
+use super::encoded;
+use base::Answer;
+ghost use mathlib.Core.Path.{_≡_};
+ghost use mathlib.Core.Bool.{true};
+ghost use Prim.Native.Nat.{_+_, _*_, _≤_, _<_, min};
+ghost use lib.ListN.{length, take, drop};
+ghost use Rattle.base.specs.Choice.{pick};
+ghost use Rattle.lists.specs.Calls.{result, after};
+ghost use Rattle.lists.specs.Encoded.{callCount, isClosing, numbered, callOf, callsOf, accepted, withAnswer, withLent, grantsAfter, answersAfter};
+
+// Runs all calls of a list.
+pub(super) fn run_all(calls: &[u32], state: &mut [u32], grants: &mut [u32], answers: &mut [u64])
+    requires { ⌜ accepted (now calls) (length (now answers)) ≡ true ⌝ }
+    ensures { λ _. ⌜ (now (state .exit) ≡ after (callsOf (now (calls .entry)) (now (grants .entry))) (now (state .entry)))
+        × (now (grants .exit) ≡ grantsAfter (now (calls .entry)) (now (state .entry)) (now (grants .entry)) (callCount (now (calls .entry))))
+        × (now (answers .exit) ≡ answersAfter (now (calls .entry)) (now (state .entry)) (now (grants .entry)) (now (answers .entry)) (callCount (now (calls .entry)))) ⌝ }
+{
+    let count = calls.len() / encoded::CALL_WORDS;
+    let mut n = 0;
+    let mut start = 0;
+    while n < count {
+        let first = encoded::CALL_WORDS * n;
+        let end = first + encoded::CALL_WORDS;
+        start = run_call(&calls[first..end], n, start, state, grants, answers);
+        n += 1;
+    }
+}
+
+// Runs call n, given by its six words. The next closing is lent the words of the grants buffer from
+// `start` on. Returns where those of the closing after this call begin.
+fn run_call(
+    words: &[u32],
+    n: usize,
+    start: usize,
+    state: &mut [u32],
+    grants: &mut [u32],
+    answers: &mut [u64],
+) -> usize
+    requires { ⌜ (length (now words) ≡ 6) × (3 * n + 2 < length (now answers)) × (start ≤ length (now grants)) ⌝ }
+    ensures { λ r. ⌜ (r ≡ pick (isClosing (now (words .entry))) (min (start + 1536) (length (now (grants .entry)))) start)
+        × (now (state .exit) ≡ result (callOf (now (words .entry)) (take 1536 (drop start (now (grants .entry))))) (now (state .entry)) .state)
+        × (now (grants .exit) ≡ withLent (now (words .entry)) (now (grants .entry)) start (result (callOf (now (words .entry)) (take 1536 (drop start (now (grants .entry))))) (now (state .entry)) .grants))
+        × (now (answers .exit) ≡ withAnswer (now (answers .entry)) n (result (callOf (now (words .entry)) (take 1536 (drop start (now (grants .entry))))) (now (state .entry)) .answer)) ⌝ }
+{
+    let kind = words[0];
+    if kind == encoded::CLOSE {
+        let end = encoded::lent_end(start, grants.len());
+        let closed = closing::close(state, &mut grants[start..end]);
+        store_answer(answers, n, closed);
+        return end;
+    }
+    let kw = encoded::kw_of(words[4], words[5]);
+    let answer = numbered_call(state, kind, words[1], words[2], words[3], kw);
+    store_answer(answers, n, answer);
+    start
+}
+
+// Runs a call that is no closing.
+fn numbered_call(state: &mut [u32], kind: u32, a: u32, b: u32, c: u32, kw: u64) -> Answer
+    ensures { λ r. ⌜ (r ≡ result (numbered kind a b c kw) (now (state .entry)) .answer)
+        × (now (state .exit) ≡ result (numbered kind a b c kw) (now (state .entry)) .state) ⌝ }
+{
+    if kind == encoded::TRADE {
+        return trading::trade(state, a, b, kw);
+    }
+    if kind == encoded::REQUEST {
+        return trading::request(state, a, b, kw);
+    }
+    if kind == encoded::TAKE {
+        return taking::take(state, a, b, kw, c);
+    }
+    if kind == encoded::MOVE {
+        return holding::move_kw(state, a, b, c, kw);
+    }
+    holding::lock(state, a, b, kw, c)
+}
+
+// Writes the three words of the answer to call n.
+fn store_answer(answers: &mut [u64], n: usize, answer: Answer)
+    requires { ⌜ 3 * n + 2 < length (now answers) ⌝ }
+    ensures { λ _. ⌜ now (answers .exit) ≡ withAnswer (now (answers .entry)) n answer ⌝ }
+{
+    let place = encoded::ANSWER_WORDS * n;
+    answers[place] = answer.refusal as u64;
+    answers[place + 1] = answer.kw;
+    answers[place + 2] = answer.passes;
+}

@@ -1,0 +1,4 @@
+// `post` on a sheet with I = 49: number 2.
+fn main() {
+    printing::post_input();
+}

@@ -1,0 +1,2 @@
+pub mod PostLaws
+pub mod Examples

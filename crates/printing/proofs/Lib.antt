@@ -1,0 +1,5 @@
+pub mod WrittenLaws
+pub mod TextLaws
+pub mod PutLaws
+pub mod PostedLaws
+pub mod Examples
