@@ -13,8 +13,8 @@ use lib.Seq.{getD-set-same, getD-set-other}
 use borrow.Author.Tests.{eq-eqb, ltb-true, ltb-false, not-true, not-false}
 use Rattle.base.specs.Words.{at}
 use Rattle.base.proofs.SumLaws.{below-suc}
-use Rattle.sheet.specs.Key.{holderOf}
-use Rattle.sheet.specs.Sheet.{count, keyAt, kwAt}
+use Rattle.sheets.specs.Key.{holderOf}
+use Rattle.sheets.specs.Sheet.{count, keyAt, kwAt}
 use Rattle.state.specs.Layout.{lockedOf, termOf}
 use Rattle.carrying.specs.Line.{Line, lineIn}
 use Rattle.carrying.specs.Lines.{goesOn, nextLine, keptOf, kept, rankFor, highest, lockLine, withLock}

@@ -13,12 +13,12 @@ use Rattle.base.specs.Words.{at, tab, fill}
 use Rattle.base.proofs.ChoiceLaws.{and-left, and-right, and-both, or-left, or-right}
 use Rattle.base.proofs.SumLaws.{sumTo-le, allTo-each, allTo-all}
 use Rattle.base.proofs.WordLaws.{length-tab, at-tab, fill-same, fill-front}
-use Rattle.sheet.specs.Key.{kindOf, holderOf, intertieOf, rankOf, yearsOf}
-use Rattle.sheet.specs.Sheet as Sheet
-use Rattle.sheet.specs.Sheet.{count, keyAt, kwAt, sumOver, howMany, isLimit, isLoadShare, isNewUse, limit, outside, existing, existingOn}
-use Rattle.sheet.specs.Refusal.{badLength, badSizes, recordStands, recordsStand, oneLimitEach, oneLoadShareEach, noRankTwice, rulesHold, limitsHold, sheetRefusal}
-use Rattle.sheet.proofs.SheetLaws as SheetLaws
-use Rattle.sheet.proofs.SheetLaws.{Stands, standing}
+use Rattle.sheets.specs.Key.{kindOf, holderOf, intertieOf, rankOf, yearsOf}
+use Rattle.sheets.specs.Sheet as Sheet
+use Rattle.sheets.specs.Sheet.{count, keyAt, kwAt, sumOver, howMany, isLimit, isLoadShare, isNewUse, limit, outside, existing, existingOn}
+use Rattle.sheets.specs.Refusal.{badLength, badSizes, recordStands, recordsStand, oneLimitEach, oneLoadShareEach, noRankTwice, rulesHold, limitsHold, sheetRefusal}
+use Rattle.sheets.proofs.SheetLaws as SheetLaws
+use Rattle.sheets.proofs.SheetLaws.{Stands, standing}
 use Rattle.state.specs.Layout.{interties, holders}
 use Rattle.state.proofs.OrderlyLaws.{Orderly}
 use Rattle.call.proofs.LadderLaws.{none-first, none-second, not-whenever}

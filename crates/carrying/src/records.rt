@@ -4,15 +4,17 @@ ghost use mathlib.Core.Bool.{false};
 ghost use mathlib.Core.List.{List, _++_};
 ghost use Prim.Native.Nat.{_<_, max};
 ghost use lib.ListN.{length};
-ghost use Rattle.sheet.specs.Sheet.{count};
-ghost use Rattle.sheet.specs.Refusal.{badLength};
-ghost use Rattle.sheet.specs.Key.{holderOf};
+ghost use Rattle.sheets.specs.Sheet.{count};
+ghost use Rattle.sheets.specs.Refusal.{badLength};
+ghost use Rattle.sheets.specs.Key.{holderOf};
 ghost use Rattle.carrying.specs.Line.{Line};
 ghost use Rattle.carrying.specs.Lines.{nextLine, keptOf, kept, rankFor};
 ghost use Rattle.carrying.specs.Draft.{places, Drafted};
 use crate::key;
-use sheet::cursor::Cursor;
-use sheet::cursor::Read;
+use sheets::cursor::Cursor;
+use sheets::cursor::Read;
+use sheets::reader;
+use sheets::words;
 
 // The places of a draft: 1,024 old records and a lock for each of 32 · 48 pairs.
 pub(crate) const PLACES: usize = 2560;
@@ -24,10 +26,10 @@ pub(crate) const HOLDERS: usize = 64;
 fn raised(rank: u32, key: u32) -> u32
     ensures { λ r. ⌜ r ≡ max rank (rankFor (holderOf key) (nextLine key 0)) ⌝ }
 {
-    if sheet::key::kind(key) != 6 {
+    if sheets::key::kind(key) != 6 {
         return rank;
     }
-    let other = sheet::key::rank(key);
+    let other = sheets::key::rank(key);
     if other <= rank {
         return rank;
     }
@@ -52,7 +54,7 @@ fn keep_record(
     }
     keys[place] = key::next_key(key);
     kws[place] = kw;
-    let holder = sheet::key::holder(key) as usize;
+    let holder = sheets::key::holder(key) as usize;
     ranks[holder] = raised(ranks[holder], key);
     place + 1
 }
@@ -68,11 +70,12 @@ pub(crate) fn keep_records(
     ensures { λ r. ⌜ Drafted (now (keys .exit)) (now (kws .exit)) (now (ranks .exit)) r
         (kept (now (sheet .entry)) (count (now (sheet .entry)))) ⌝ }
 {
+    let count = words::record_count(sheet) as usize;
     *ranks = [0; HOLDERS];
     let mut drafted = 0;
     let mut cursor = Cursor::first();
     loop {
-        let read = cursor.read(sheet);
+        let read = reader::read_record(sheet, count, cursor.at);
         match read {
             Read::Next(record, next) => {
                 drafted = keep_record(record.key, record.kw, drafted, keys, kws, ranks);

@@ -8,8 +8,8 @@ use Rattle.base.specs.Sums as BaseSums
 use Rattle.base.specs.Words as BaseWords
 use Rattle.share_out.specs.Pass as ShareOutPass
 use Rattle.share_out.specs.Rule as ShareOutRule
-use Rattle.sheet.specs.Refusal as SheetRefusal
-use Rattle.sheet.specs.Sheet as SheetSheet
+use Rattle.sheets.specs.Refusal as SheetRefusal
+use Rattle.sheets.specs.Sheet as SheetSheet
 use Rattle.new_use.specs.NewUse as NewUseNewUse
 use Rattle.step5.specs.Round as Step5Round
 use Rattle.step5.specs.Shares as Step5Shares

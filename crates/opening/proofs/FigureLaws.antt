@@ -10,7 +10,7 @@ use Rattle.base.specs.Sums.{sumTo}
 use Rattle.base.specs.Words.{at, tab}
 use Rattle.base.proofs.SumLaws.{sumTo-same, sumTo-bound, sumTo-term}
 use Rattle.base.proofs.WordLaws.{at-tab, length-tab, tab-same}
-use Rattle.sheet.specs.Tables.{limitSlot, outsideSlot, loadShareSlot}
+use Rattle.sheets.specs.Tables.{limitSlot, outsideSlot, loadShareSlot}
 use Rattle.step5.specs.Shares.{step5Shares}
 use Rattle.step5.specs.Outcome.{step5}
 use Rattle.step5.specs.Fit.{Accepted}

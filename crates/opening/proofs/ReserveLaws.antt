@@ -11,7 +11,7 @@ use Rattle.share_out.specs.Rule.{Outcome}
 use Rattle.interties.specs.Rule.{amongHolders}
 use Rattle.interties.proofs.HolderLaws.{among-same}
 use Rattle.new_use.specs.NewUse.{NewUse, newUse}
-use Rattle.sheet.specs.Tables.{existingSlot, preRaSlot, newUseSlot}
+use Rattle.sheets.specs.Tables.{existingSlot, preRaSlot, newUseSlot}
 use Rattle.steps.specs.Inputs.{Inputs}
 use Rattle.steps.specs.Tables.{ofTables}
 use Rattle.steps.specs.Step2.{available, loadShareQuantity}

@@ -15,11 +15,11 @@ use Rattle.base.proofs.ChoiceLaws.{pick-false}
 use Rattle.base.proofs.SumLaws.{sumTo-same}
 use Rattle.base.proofs.WordLaws.{length-tab}
 use Rattle.state.specs.Layout.{stateWords}
-use Rattle.sheet.specs.Sheet as Sheet
-use Rattle.sheet.specs.Refusal.{sheetRefusal}
-use Rattle.sheet.specs.Tables.{slots, table, kwTable, intertieTable, Filled, ReadSheet}
-use Rattle.sheet.proofs.SheetLaws.{first-words, read-stands}
-use Rattle.sheet.proofs.TableLaws.{limit-at, outside-at, load-share-at, existing-at, pre-ra-at, new-use-kw-at, new-use-intertie-at}
+use Rattle.sheets.specs.Sheet as Sheet
+use Rattle.sheets.specs.Refusal.{sheetRefusal}
+use Rattle.sheets.specs.Tables.{slots, table, kwTable, intertieTable, Filled, ReadSheet}
+use Rattle.sheets.proofs.SheetLaws.{first-words, read-stands}
+use Rattle.sheets.proofs.TableLaws.{limit-at, outside-at, load-share-at, existing-at, pre-ra-at, new-use-kw-at, new-use-intertie-at}
 use Rattle.steps.specs.Inputs.{Inputs, ofSheet}
 use Rattle.steps.specs.Tables.{ofTables}
 use Rattle.steps.specs.Valid.{Valid}

@@ -8,7 +8,7 @@ use Rattle.base.specs.Sums.{sumTo}
 use Rattle.base.specs.Words.{at, tab}
 use Rattle.base.proofs.SumLaws.{sumTo-same, sumTo-add, sumTo-term}
 use Rattle.base.proofs.WordLaws.{at-tab, length-tab, tab-same, tab-at}
-use Rattle.sheet.specs.Tables.{limitSlot, outsideSlot, loadShareSlot, existingSlot}
+use Rattle.sheets.specs.Tables.{limitSlot, outsideSlot, loadShareSlot, existingSlot}
 use Rattle.step5.specs.Shares.{step5Shares}
 use Rattle.rows.specs.Rows.{fillRow, fillPairs}
 use Rattle.rows.proofs.RowLaws.{fillRow-same, fillPairs-same}

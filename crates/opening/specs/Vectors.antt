@@ -7,7 +7,7 @@ use Rattle.base.specs.Sums.{sumTo}
 use Rattle.base.specs.Words.{at, tab}
 use Rattle.share_out.specs.Rule.{Outcome}
 use Rattle.interties.specs.Rule.{amongHolders}
-use Rattle.sheet.specs.Tables.{existingSlot, preRaSlot, newUseSlot}
+use Rattle.sheets.specs.Tables.{existingSlot, preRaSlot, newUseSlot}
 use Rattle.new_use.specs.NewUse.{NewUse, newUse}
 
 abbrev pub pairAt : ℕ → ℕ → ℕ

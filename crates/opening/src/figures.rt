@@ -1,7 +1,7 @@
 // Steps 2, 5 and 7: what is available, the Load Share Quantities, what each holder holds and its totals.
 use super::vectors;
-use sheet::tables::LOAD_SHARES;
-use sheet::tables::OUTSIDE;
+use sheets::tables::LOAD_SHARES;
+use sheets::tables::OUTSIDE;
 ghost use mathlib.Core.Path.{_≡_};
 ghost use Prim.Native.Nat.{ℕ, _+_, _-_, _*_, _/_, _≤_, _<_};
 ghost use lib.ListN.{length};

@@ -6,7 +6,7 @@ ghost use Prim.Native.Nat.{ℕ, _+_, _-_, _*_, _≤_, _<_};
 ghost use lib.ListN.{length};
 ghost use Rattle.base.specs.Words.{at};
 ghost use Rattle.interties.specs.Rule.{amongHolders};
-ghost use Rattle.sheet.specs.Tables.{existingSlot, preRaSlot};
+ghost use Rattle.sheets.specs.Tables.{existingSlot, preRaSlot};
 ghost use Rattle.opening.specs.Vectors.{keptFrom, SharedOver};
 ghost use Rattle.opening.specs.Reserve.{Reserving, Reserved};
 

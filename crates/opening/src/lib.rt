@@ -7,9 +7,9 @@ mod writing;
 mod year;
 
 use base::Answer;
-use sheet::refusal;
-use sheet::tables::SLOTS;
-use sheet::words;
+use sheets::refusal;
+use sheets::tables::SLOTS;
+use sheets::words;
 use state::layout::STATE_WORDS;
 ghost use mathlib.Core.Path.{_≡_};
 ghost use Rattle.opening.specs.Open.{opened};

@@ -3,7 +3,7 @@ use super::claims;
 use super::figures;
 use super::granting;
 use super::writing;
-use sheet::tables::OUTSIDE;
+use sheets::tables::OUTSIDE;
 ghost use mathlib.Core.Path.{_≡_};
 ghost use Prim.Native.Nat.{_≤_};
 ghost use lib.ListN.{length};

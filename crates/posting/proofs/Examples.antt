@@ -12,10 +12,10 @@ use Rattle.state.specs.Layout.{place}
 use Rattle.share_out.specs.Pass.{isOpen, openWeights, byWeight, oneEach, unweighted, passKw, passTotal, passGrants}
 use Rattle.share_out.specs.Rule.{runPasses, shared, unfitNumbers, sharedAnswer, shareOut}
 use Rattle.interties.specs.Rule.{amongHolders}
-use Rattle.sheet.specs.declared.cursor.Record.{Record}
-use Rattle.sheet.specs.Sheet.{wordAt, sumOver, limit, outside, loadShare, existing, preRa, newUseKw, newUseIntertie}
-use Rattle.sheet.specs.Sheet as Sheet
-use Rattle.sheet.specs.Refusal.{badLength, badSizes, recordStands, recordsStand, oneLimitEach, oneLoadShareEach, noRankTwice, rulesHold, limitsHold, sheetRefusal}
+use Rattle.sheets.specs.declared.cursor.Record.{Record}
+use Rattle.sheets.specs.Sheet.{wordAt, sumOver, limit, outside, loadShare, existing, preRa, newUseKw, newUseIntertie}
+use Rattle.sheets.specs.Sheet as Sheet
+use Rattle.sheets.specs.Refusal.{badLength, badSizes, recordStands, recordsStand, oneLimitEach, oneLoadShareEach, noRankTwice, rulesHold, limitsHold, sheetRefusal}
 use Rattle.new_use.specs.NewUse.{nextRank, afterRanks, newUse}
 use Rattle.step5.specs.Shares.{step5Shares}
 use Rattle.step5.proofs.Examples as Step5

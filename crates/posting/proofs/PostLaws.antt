@@ -14,7 +14,7 @@ use Rattle.base.specs.declared.Answer.{Answer}
 use Rattle.base.specs.Answers.{refused, granted}
 use Rattle.base.proofs.SumLaws.{sumTo-same}
 use Rattle.state.specs.Layout.{interties, holders}
-use Rattle.sheet.specs.Refusal.{sheetRefusal}
+use Rattle.sheets.specs.Refusal.{sheetRefusal}
 use Rattle.rows.specs.Rows.{fillRow}
 use Rattle.steps.specs.Inputs.{Inputs, ofSheet}
 use Rattle.steps.specs.Valid.{Valid}

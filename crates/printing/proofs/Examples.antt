@@ -1,21 +1,16 @@
 -- Case i of 01's table of examples: the text that `post` prints, letter by letter; and the lines of refused sheets.
-use Prim.Native.Nat.{ℕ}
-use Prim.Native.Char.{code}
-use Prim.Native.String as String
 use mathlib.Core.Path.{_≡_, refl}
-use mathlib.Core.List.{List, [], _∷_}
+use mathlib.Core.List.{[], _∷_}
 use lib.ListN.{replicate}
 use Rattle.base.specs.Sums.{sumTo, allTo}
-use Rattle.sheet.specs.Sheet.{wordAt, sumOver, limit, outside, existing, existingOn}
-use Rattle.sheet.specs.Refusal.{badLength, badSizes, recordStands, recordsStand, oneLimitEach, oneLoadShareEach, noRankTwice, rulesHold, limitsHold, sheetRefusal}
+use Rattle.sheets.specs.Sheet.{wordAt, sumOver, limit, outside, existing, existingOn}
+use Rattle.sheets.specs.Refusal.{badLength, badSizes, recordStands, recordsStand, oneLimitEach, oneLoadShareEach, noRankTwice, rulesHold, limitsHold, sheetRefusal}
 use Rattle.rows.specs.Rows.{fillRow}
 use Rattle.posting.proofs.Examples.{bytesOf, sheetOf, entry, sheetI, stands-i, linesI, posted-i}
-use Rattle.printing.specs.Text.{decimalTo, figure, each, shortLine, longLine, postingText, textOf}
-
--- a text as bytes
-abbrev pub ascii : String.String → List ℕ
-ascii String.[] = []
-ascii (String._∷_ letter text) = code letter ∷ ascii text
+use Rattle.text.specs.Ascii.{ascii}
+use Rattle.text.specs.Decimal.{decimalTo}
+use Rattle.text.specs.Lines.{figure}
+use Rattle.printing.specs.Text.{each, shortLine, longLine, postingText, textOf}
 
 pub case-i : textOf sheetI ≡ ascii "T 100000\nI 0 110000 10000 30000 0 0 70000\nH 0 50000 50000 0 43750\nH 1 30000 30000 0 26250\nH 2 20000 20000 30000 0\n"
 unfolding bytesOf sheetOf sheetI linesI wordAt fillRow decimalTo figure each shortLine longLine postingText textOf

@@ -1,4 +1,3 @@
-pub mod WrittenLaws
 pub mod TextLaws
 pub mod PutLaws
 pub mod PostedLaws

@@ -11,16 +11,16 @@ use borrow.Author.Tests.{eqb-true, ne-eqb, le-ltb}
 use Rattle.base.specs.Choice.{pick}
 use Rattle.base.specs.declared.Answer.{Answer}
 use Rattle.base.proofs.ChoiceLaws.{pick-by}
-use Rattle.sheet.specs.Sheet.{interties, holders}
-use Rattle.sheet.specs.Refusal.{sheetRefusal}
-use Rattle.sheet.proofs.SheetLaws.{first-words, standing}
+use Rattle.sheets.specs.Sheet.{interties, holders}
+use Rattle.sheets.specs.Refusal.{sheetRefusal}
+use Rattle.sheets.proofs.SheetLaws.{first-words, standing}
 use Rattle.posting.specs.Post.{Posted, posted}
 use Rattle.io.specs.Counts.{Counts}
-use Rattle.printing.specs.Written.{written}
+use Rattle.text.specs.Written.{written}
 use Rattle.printing.specs.Text.{letterR, shortLine, postingText, fresh, textOf}
-use Rattle.printing.proofs.WrittenLaws.{length-written}
+use Rattle.text.proofs.WrittenLaws.{length-written}
 use Rattle.printing.proofs.TextLaws.{length-short}
-use Rattle.printing.proofs.PutLaws.{Put}
+use Rattle.text.proofs.PutLaws.{Put}
 
 module _ (s : List ℕ) where
   -- the number that the posting answers is the sheet's

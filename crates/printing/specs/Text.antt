@@ -1,23 +1,18 @@
 -- What program `post` prints, byte by byte: T; for each intertie its number and six figures; for each holder its number and four. A refused sheet prints R and the number.
-use Prim.Native.Nat.{ℕ, zero, suc, _+_, _/_, _%_}
+use Prim.Native.Nat.{ℕ, zero, suc, _+_}
 use Prim.Native.Char.{code}
 use mathlib.Core.List.{List, [], _∷_, _++_}
-use lib.Dec.{ltb, eqb}
+use lib.Dec.{eqb}
 use lib.ListN.{replicate}
 use Rattle.base.specs.Choice.{pick}
 use Rattle.base.specs.Words.{at}
+use Rattle.text.specs.Lines.{blank, lineEnd, figure}
 use Rattle.state.specs.Layout.{place}
-use Rattle.sheet.specs.Sheet.{interties, holders}
-use Rattle.sheet.specs.Refusal.{sheetRefusal}
+use Rattle.sheets.specs.Sheet.{interties, holders}
+use Rattle.sheets.specs.Refusal.{sheetRefusal}
 use Rattle.posting.specs.Post.{Posted, posted}
 
 -- ASCII
-abbrev pub blank : ℕ
-blank = code " "
-
-abbrev pub lineEnd : ℕ
-lineEnd = code "\n"
-
 abbrev pub letterT : ℕ
 letterT = code "T"
 
@@ -30,22 +25,6 @@ letterH = code "H"
 abbrev pub letterR : ℕ
 letterR = code "R"
 
-abbrev pub digit : ℕ → ℕ
-digit d = code "0" + d
-
--- the decimal digits of n, k + 1 at most
-unfoldable pub decimalTo : ℕ → ℕ → List ℕ
-decimalTo zero n = digit (n % 10) ∷ []
-decimalTo (suc k) n = pick (ltb n 10) (digit n ∷ []) (decimalTo k (n / 10) ++ (digit (n % 10) ∷ []))
-
--- a number of 64 bits has 20 at most
-abbrev pub decimal : ℕ → List ℕ
-decimal n = decimalTo 19 n
-
--- a blank and a number
-unfoldable pub figure : ℕ → List ℕ
-figure n = blank ∷ decimal n
-
 -- the texts f 0, f 1, .. f (n - 1) one after the other
 unfoldable pub each : ℕ → (ℕ → List ℕ) → List ℕ
 each zero f = []
@@ -53,15 +32,15 @@ each (suc n) f = each n f ++ f n
 
 -- a letter and a number
 unfoldable pub shortLine : ℕ → ℕ → List ℕ
-shortLine letter n = letter ∷ figure n ++ (lineEnd ∷ [])
+shortLine letter n = letter ∷ figure blank n ++ (lineEnd ∷ [])
 
 -- the figures of a column of the posting: so many rows from the first on
 abbrev pub columnFigures : ℕ → ℕ → List ℕ → ℕ → List ℕ
-columnFigures first rows l column = each rows (λ r. figure (at l (place (first + r) column)))
+columnFigures first rows l column = each rows (λ r. figure blank (at l (place (first + r) column)))
 
 -- a letter, the number of the intertie or holder, and the figures of its column
 unfoldable pub longLine : ℕ → ℕ → ℕ → List ℕ → ℕ → List ℕ
-longLine letter first rows l column = letter ∷ figure column ++ columnFigures first rows l column ++ (lineEnd ∷ [])
+longLine letter first rows l column = letter ∷ figure blank column ++ columnFigures first rows l column ++ (lineEnd ∷ [])
 
 -- T, then the lines of I interties, whose figures are rows 0 to 5 of the posting, and of H holders, rows 6 to 9
 unfoldable pub postingText : ℕ → ℕ → ℕ → List ℕ → List ℕ

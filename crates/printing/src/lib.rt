@@ -1,10 +1,10 @@
 // Program `post` (document 01, "Beside the year"): a sheet on standard input, its posting on standard
 // output.
-pub mod text;
+pub mod writing;
 
 use libc::STDIN_FILENO;
 use libc::STDOUT_FILENO;
-use text::TEXT_BYTES;
+use writing::TEXT_BYTES;
 
 // The longest sheet has 8,204 bytes. With room for one byte more a longer input is told from it, and
 // is refused with number 1.
@@ -20,6 +20,6 @@ pub fn post_input() {
 // A write that fails ends the printing.
 fn print_posting(sheet: &[u8]) -> bool {
     let mut out = [0u8; TEXT_BYTES];
-    let count = text::posting_text(sheet, &mut out);
+    let count = writing::posting_text(sheet, &mut out);
     io::write_all(STDOUT_FILENO, &out[..count])
 }

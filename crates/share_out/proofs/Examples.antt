@@ -2,11 +2,10 @@
 use Prim.Native.Nat.{ℕ}
 use mathlib.Core.Path.{_≡_, refl}
 use mathlib.Core.List.{List, [], _∷_}
-use lib.ListN.{length}
 use Rattle.base.specs.Sums.{sumTo}
 use Rattle.base.specs.Words.{tab}
 use Rattle.share_out.specs.Pass.{isOpen, openWeights, byWeight, oneEach, unweighted, passKw, passTotal, passGrants}
-use Rattle.share_out.specs.Rule.{Shared, shared, runPasses}
+use Rattle.share_out.specs.Rule.{shared, runPasses}
 
 abbrev gives : ℕ → List ℕ → List ℕ → List ℕ → ℕ → Type 0
 gives pool claims weights g p = shared pool claims weights ≡ record { grants = g; passes = p }

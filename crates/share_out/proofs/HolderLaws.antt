@@ -1,23 +1,23 @@
 -- Laws of a holder over the passes: what its weight keeps it from, and what it is sure of.
-use Prim.Native.Nat.{ℕ, zero, suc, _+_, _-_, _*_, _/_, _≤_, _<_, min, zero-le}
+use Prim.Native.Nat.{ℕ, _+_, _-_, _*_, _/_, _≤_, _<_}
 use mathlib.Core.Path.{_≡_, refl, sym, ap, _∙_}
 use mathlib.Core.Bool.{Bool, true, false, _&&_}
 use mathlib.Core.List.{List}
 use mathlib.Core.Logic.{_⊎_, inl, inr, ⊎-elim}
-use native.Mathlib.Nat.{le-refl, le-trans, le-of-eq, eq-zero-or-pos, mul-zero, zero-mul, zero-div, div-zero, pos-of-ne-zero}
+use native.Mathlib.Nat.{le-refl, eq-zero-or-pos, mul-zero, zero-div, div-zero}
 use native.Mathlib.Omega.{arith}
 use lib.ListN.{length}
-use lib.Dec.{ltb, leb, eqb}
-use borrow.Author.Tests.{lt-ltb, le-ltb, le-leb, lt-leb, eqb-true, eqb-false, leb-true, leb-false}
+use lib.Dec.{ltb, eqb}
+use borrow.Author.Tests.{lt-ltb, eqb-true}
 use Rattle.base.specs.Choice.{pick}
 use Rattle.base.specs.Sums.{sumTo}
-use Rattle.base.specs.Words.{at, tab}
-use Rattle.base.proofs.ChoiceLaws.{pick-by, pick-true, pick-false}
-use Rattle.base.proofs.SumLaws.{sumTo-same, sumTo-none, sumTo-zeros, sumTo-term}
-use Rattle.share_out.specs.Pass.{unmet, isOpen, openWeight, openWeights, byWeight, oneEach, unweighted, passKw, passTotal, passGrants}
-use Rattle.share_out.specs.Rule.{Shared, runPasses, claimed, shared}
-use Rattle.share_out.proofs.PassLaws.{open-both, open-unmet, open-weight, byWeight-is, passKw-unmet, at-passGrants}
-use Rattle.share_out.proofs.RunLaws.{Running, none, at-none, running-first, running-next, run-pass, fuel-lasts}
+use Rattle.base.specs.Words.{at}
+use Rattle.base.proofs.ChoiceLaws.{pick-by, pick-true}
+use Rattle.base.proofs.SumLaws.{sumTo-same, sumTo-none, sumTo-zeros}
+use Rattle.share_out.specs.Pass.{unmet, isOpen, openWeight, openWeights, byWeight, oneEach, passKw, passTotal, passGrants}
+use Rattle.share_out.specs.Fit.{none}
+use Rattle.share_out.proofs.PassLaws.{open-both, open-unmet, open-weight, byWeight-is, at-passGrants}
+use Rattle.share_out.proofs.RunLaws.{at-none}
 
 module _ (claims weights : List ℕ) where
   -- with none open, none opens again

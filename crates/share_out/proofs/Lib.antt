@@ -1,5 +1,6 @@
 pub mod Examples
 pub mod NumberLaws
+pub mod RateLaws
 pub mod PassLaws
 pub mod TurnLaws
 pub mod RunLaws

@@ -1,18 +1,17 @@
 -- The answer and the output by cases: refused with 5, refused with 9, shared out.
 use Prim.Native.Nat.{ℕ, _≤_, _<_}
-use mathlib.Core.Path.{_≡_, refl, sym, ap, _∙_}
-use mathlib.Core.Bool.{Bool, true, false, not, _||_}
+use mathlib.Core.Path.{_≡_, sym, ap}
+use mathlib.Core.Bool.{true, false, not, _||_}
 use mathlib.Core.List.{List, _++_}
 use native.Mathlib.Omega.{arith}
 use lib.ListN.{length, drop}
 use lib.Dec.{ltb, eqb}
 use borrow.Author.Tests.{ltb-false, eqb-true, not-false}
-use Rattle.base.specs.Sums.{sumTo}
 use Rattle.base.specs.Words.{at, fill}
 use Rattle.base.specs.Answers.{refused, granted}
 use Rattle.base.proofs.ChoiceLaws.{or-left, or-right}
 use Rattle.base.proofs.WordLaws.{fill-front}
-use Rattle.share_out.specs.Rule.{Shared, claimed, shared, unfitLengths, unfitNumbers, sharedAnswer, Outcome, shareOut}
+use Rattle.share_out.specs.Rule.{claimed, shared, unfitLengths, unfitNumbers, sharedAnswer, shareOut}
 use Rattle.share_out.proofs.Promise.{promise, shared-fits}
 
 -- what number 5 leaves of the lengths

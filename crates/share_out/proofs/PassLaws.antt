@@ -4,16 +4,17 @@ use mathlib.Core.Path.{_≡_, refl, sym, ap, _∙_}
 use mathlib.Core.Bool.{Bool, true, false, _&&_}
 use mathlib.Core.List.{List}
 use mathlib.Core.Logic.{⊎-elim}
-use native.Mathlib.Nat.{le-refl, le-trans, le-of-lt, le-of-eq, min-le-left, min-le-right, mul-zero, zero-mul, zero-div, div-zero, mul-comm, mul-le-mul-right, div-mul-le-self, le-of-mul-le-mul-right, eq-zero-or-pos, pos-of-ne-zero}
+use native.Mathlib.Nat.{le-refl, le-trans, le-of-eq, min-le-left, min-le-right, mul-zero, zero-mul, zero-div, div-zero, mul-comm, mul-one, mul-suc, mul-le-mul-left, mul-le-mul-right, div-mul-le-self, lt-div-mul-add, le-of-mul-le-mul-right, eq-zero-or-pos, pos-of-ne-zero}
 use native.Mathlib.Omega.{arith}
+use native.Mathlib.Decide.{decLt}
 use lib.ListN.{length}
 use lib.Dec.{ltb, eqb}
-use borrow.Author.Tests.{lt-ltb, le-ltb, eq-eqb, ne-eqb, eqb-true, eqb-false, ltb-true}
+use borrow.Author.Tests.{lt-ltb, le-ltb, eq-eqb, eqb-false, ltb-true}
 use Rattle.base.specs.Choice.{pick}
 use Rattle.base.specs.Sums.{sumTo}
-use Rattle.base.specs.Words.{at, tab}
-use Rattle.base.proofs.ChoiceLaws.{pick-by, pick-true, pick-false, sumTo-pick, and-left, and-right, and-both, and-false}
-use Rattle.base.proofs.SumLaws.{sumTo-same, sumTo-le, sumTo-add, sumTo-scale, sumTo-none, sumTo-zeros, sumTo-suc, sumTo-more, sumTo-zero, sumTo-term}
+use Rattle.base.specs.Words.{at}
+use Rattle.base.proofs.ChoiceLaws.{pick-by, sumTo-pick, and-left, and-right, and-both}
+use Rattle.base.proofs.SumLaws.{sumTo-same, sumTo-le, sumTo-add, sumTo-scale, sumTo-none, sumTo-zeros, sumTo-suc, sumTo-zero}
 use Rattle.base.proofs.WordLaws.{at-tab, length-tab}
 use Rattle.share_out.specs.Turn.{inTurn}
 use Rattle.share_out.specs.Pass.{unmet, isOpen, openWeight, openWeights, byWeight, oneEach, unweighted, passKw, passTotal, passGrants}
@@ -36,9 +37,26 @@ open-weight-unmet u w h =
 pub open-weight-met : (unmetKw weight : ℕ) → unmetKw ≤ 0 → pick (ltb 0 unmetKw && ltb 0 weight) weight 0 ≡ 0
 open-weight-met u w h = rw (le-ltb 0 u h)
 
-pub open-weight-most : (unmetKw weight kw most : ℕ) → kw ≡ pick (ltb 0 unmetKw && ltb 0 weight) weight 0 → weight ≤ most → kw ≤ most
-open-weight-most u w kw most e h =
-    rw e (pick-by (λ x. x ≤ most) (ltb 0 u && ltb 0 w) w 0 (λ t. h) (λ f. zero-le))
+-- the part by weight of the weight that a holder brings into W is that of its weight: with no unmet claim both are 0
+pub open-weight-part : (left weight all unmetKw : ℕ) →
+    min unmetKw (left * pick (ltb 0 unmetKw && ltb 0 weight) weight 0 / all) ≡ min unmetKw (left * weight / all)
+open-weight-part left w all u =
+    ⊎-elim
+    (λ (z : u ≡ 0). omega arith)
+    (λ (p : 0 < u). ap (λ (k : ℕ). min u (left * k / all)) (open-weight-unmet u w p))
+    (eq-zero-or-pos u)
+
+-- what it brings after a part: the same while the part is below the unmet claim, then nothing
+pub open-weight-after : (part unmetKw weight : ℕ) →
+    pick (ltb part unmetKw) (pick (ltb 0 unmetKw && ltb 0 weight) weight 0) 0
+    ≡ pick (ltb 0 (unmetKw - min unmetKw part) && ltb 0 weight) weight 0
+open-weight-after part u w =
+    elim (decLt part u) [
+      | yes below ↦
+          rw (lt-ltb part u below)
+          (open-weight-unmet u w (omega arith) ∙ sym (open-weight-unmet (u - min u part) w (omega arith)))
+      | no met ↦ rw (le-ltb part u (omega arith)) (sym (open-weight-met (u - min u part) w (omega arith)))
+    ]
 
 module _ (claims weights : List ℕ) where
   pub open-both : (g : List ℕ) (i : ℕ) → 0 < unmet claims g i → 0 < at weights i → isOpen claims weights g i ≡ true
@@ -54,11 +72,21 @@ module _ (claims weights : List ℕ) where
   unfolding isOpen
   open-weight g i e = ltb-true 0 (at weights i) (and-right (ltb 0 (unmet claims g i)) (ltb 0 (at weights i)) e)
 
-  -- a turn of the loop that adds up W
-  pub openWeights-turn : (g : List ℕ) (i all unmetKw kw : ℕ) → all ≡ sumTo i (openWeight claims weights g) → unmetKw ≡ unmet claims g i →
-      kw ≡ pick (ltb 0 unmetKw && ltb 0 (at weights i)) (at weights i) 0 → all + kw ≡ sumTo (i + 1) (openWeight claims weights g)
-  unfolding isOpen
-  openWeights-turn g i all u kw a e h = rw (sumTo-more i (openWeight claims weights g), ← a, ← e) (ap (λ k. all + k) h)
+  -- a holder is open exactly where it brings a weight into W
+  pub open-is : (g : List ℕ) (i : ℕ) → ltb 0 (openWeight claims weights g i) ≡ isOpen claims weights g i
+  open-is g i =
+      pick-by (λ (x : ℕ). ltb 0 x ≡ isOpen claims weights g i) (isOpen claims weights g i) (at weights i) 0
+      (λ t. lt-ltb 0 (at weights i) (open-weight g i t) ∙ sym t)
+      (λ f. le-ltb 0 0 (le-refl 0) ∙ sym f)
+
+  -- an open holder has an unmet claim
+  pub brings-unmet : (g : List ℕ) (i : ℕ) → 0 < openWeight claims weights g i → 0 < unmet claims g i
+  brings-unmet g i p = open-unmet g i (sym (open-is g i) ∙ lt-ltb 0 (openWeight claims weights g i) p)
+
+  -- W is a sum of weights in range
+  pub openWeight-most : (most : ℕ) (g : List ℕ) (i : ℕ) → at weights i ≤ most → openWeight claims weights g i ≤ most
+  openWeight-most most g i h =
+      pick-by (λ x. x ≤ most) (isOpen claims weights g i) (at weights i) 0 (λ t. h) (λ f. zero-le)
 
   -- the part by weight without the test: a holder that is not open has no unmet claim or no weight
   pub byWeight-is : (R : ℕ) (g : List ℕ) (i : ℕ) → byWeight claims weights R g i ≡ min (unmet claims g i) (R * at weights i / openWeights claims weights g)
@@ -191,6 +219,50 @@ module _ (claims weights : List ℕ) where
       pos-of-ne-zero (λ z. eqb-false (openWeights claims weights g) 0 some (none-open g z)) in
       omega (arith, oneEach-sum R g))
       (λ f. pos-of-ne-zero (λ z. eqb-false (sumTo (length claims) (byWeight claims weights R g)) 0 f z))))
+
+  -- where all parts by weight are 0, there are fewer kW than open holders
+  few-left : (R : ℕ) (g : List ℕ) → 0 < openWeights claims weights g → sumTo (length claims) (byWeight claims weights R g) ≡ 0 →
+      R ≤ sumTo (length claims) (λ i. pick (isOpen claims weights g i) 1 0)
+  unfolding openWeights
+  few-left R g pos none =
+      let n : ℕ = length claims in
+      let W : ℕ = openWeights claims weights g in
+      let ones : ℕ = sumTo n (λ i. pick (isOpen claims weights g i) 1 0) in
+      let each : (i : ℕ) → i < n → R * openWeight claims weights g i + pick (isOpen claims weights g i) 1 0 ≤ W * pick (isOpen claims weights g i) 1 0 =
+      λ i l. small R W (at weights i) (unmet claims g i) (isOpen claims weights g i) pos (open-unmet g i)
+      (sym (byWeight-is R g i) ∙ sumTo-none n (byWeight claims weights R g) none i l) in
+      let all : R * W + ones ≤ W * ones =
+      omega (
+        arith,
+        sumTo-le n (λ i. R * openWeight claims weights g i + pick (isOpen claims weights g i) 1 0) (λ i. W * pick (isOpen claims weights g i) 1 0) each,
+        sumTo-add n (λ i. R * openWeight claims weights g i) (λ i. pick (isOpen claims weights g i) 1 0),
+        sumTo-scale n R (openWeight claims weights g),
+        sumTo-scale n W (λ i. pick (isOpen claims weights g i) 1 0),
+      ) in
+      elim (decLt ones R) [
+        | yes fewer ↦ absurd (omega (arith, all, mul-le-mul-left W fewer, mul-suc W ones, mul-comm W R))
+        | no enough ↦ omega arith
+      ]
+    where
+      small : (R W w u : ℕ) (b : Bool) → 0 < W → (b ≡ true → 0 < u) → min u (R * w / W) ≡ 0 →
+          R * pick b w 0 + pick {A = ℕ} b 1 0 ≤ W * pick {A = ℕ} b 1 0
+      small R W w u true pos some z =
+          let least : R * w < R * w / W * W + W = lt-div-mul-add {a = R * w} {b = W} pos in
+          let d : R * w / W ≡ 0 = omega (arith, some refl, z) in
+          let n : R * w < W = omega (arith, rw d at least, zero-mul W) in
+          omega (arith, mul-one W)
+      small R W w u false pos some z = omega (arith, mul-zero R, mul-zero W)
+
+  -- a pass that gives nothing by weight empties the pool
+  pub passTotal-last : (R : ℕ) (g : List ℕ) → R ≤ sumTo (length claims) (unmet claims g) →
+      sumTo (length claims) (byWeight claims weights R g) ≡ 0 → passTotal claims weights R g ≡ R
+  passTotal-last R g short none =
+      rw (passTotal-is R g)
+      (pick-by (λ x. x ≡ R) (eqb (openWeights claims weights g) 0) _ _
+      (λ t. omega (arith, unweighted-sum R g))
+      (λ some.
+      rw (eq-eqb (sumTo (length claims) (byWeight claims weights R g)) 0 none)
+      (omega (arith, oneEach-sum R g, few-left R g (pos-of-ne-zero (eqb-false (openWeights claims weights g) 0 some)) none))))
 
   pub length-passGrants : (R : ℕ) (g : List ℕ) → length (passGrants claims weights R g) ≡ length claims
   unfolding passGrants

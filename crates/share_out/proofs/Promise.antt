@@ -1,21 +1,21 @@
 -- What a share-out promises its callers, as theorems about the definition `shared`. Nothing above this crate opens the definition.
 use Prim.Native.Nat.{ℕ, zero, suc, _+_, _-_, _*_, _/_, _≤_, _<_, min, zero-le}
-use mathlib.Core.Path.{_≡_, refl, sym, ap, _∙_}
+use mathlib.Core.Path.{_≡_, refl, sym}
 use mathlib.Core.List.{List}
 use mathlib.Core.Logic.{_⊎_, inl, inr, ⊎-elim}
 use native.Mathlib.Nat.{le-refl, min-le-left, eq-zero-or-pos, zero-mul, zero-div}
 use native.Mathlib.Decide.{decLe}
 use native.Mathlib.Omega.{arith}
 use lib.ListN.{length}
-use lib.Dec.{leb}
 use borrow.Author.Tests.{le-leb, lt-leb}
 use Rattle.base.specs.Sums.{sumTo}
 use Rattle.base.specs.Words.{at}
-use Rattle.base.proofs.SumLaws.{sumTo-term, sumTo-none}
-use Rattle.share_out.specs.Pass.{unmet, isOpen, openWeights, byWeight, passKw, passTotal, passGrants}
+use Rattle.base.proofs.SumLaws.{sumTo-none}
+use Rattle.share_out.specs.Pass.{unmet, openWeights, passTotal, passGrants}
 use Rattle.share_out.specs.Rule.{Shared, runPasses, claimed, shared}
+use Rattle.share_out.specs.Fit.{none}
 use Rattle.share_out.proofs.PassLaws.{open-both, byWeight-is, at-passGrants}
-use Rattle.share_out.proofs.RunLaws.{Running, none, at-none, running-first, running-next, run-pass, fuel-lasts}
+use Rattle.share_out.proofs.RunLaws.{Running, at-none, running-first, running-next, run-pass, fuel-lasts}
 use Rattle.share_out.proofs.HolderLaws.{Weightless, weightless-kept, byWeight-least, claimWeights, openWeights-first}
 
 -- what every share-out keeps, whatever the numbers

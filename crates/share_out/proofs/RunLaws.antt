@@ -1,21 +1,19 @@
 -- Laws of the passes together: what holds before a pass holds after it, the count of passes to come never runs out, and the pool ends empty.
-use Prim.Native.Nat.{ℕ, zero, suc, _+_, _-_, _*_, _/_, _≤_, _<_, min, zero-le}
+use Prim.Native.Nat.{ℕ, zero, suc, _+_, _-_, _≤_, _<_}
 use mathlib.Core.Path.{_≡_, refl, sym, ap, _∙_}
-use mathlib.Core.Bool.{Bool, true, false}
 use mathlib.Core.List.{List}
 use mathlib.Core.Logic.{⊎-elim}
 use native.Mathlib.Nat.{eq-zero-or-pos}
-use native.Mathlib.Numerals.{add-one}
 use native.Mathlib.Omega.{arith}
 use lib.ListN.{length}
-use lib.Dec.{eqb}
 use borrow.Author.Tests.{ne-eqb}
 use Rattle.base.specs.Sums.{sumTo}
-use Rattle.base.specs.Words.{at, tab}
+use Rattle.base.specs.Words.{at}
 use Rattle.base.proofs.SumLaws.{sumTo-same, sumTo-add, sumTo-zeros}
 use Rattle.base.proofs.WordLaws.{at-tab, length-tab}
 use Rattle.share_out.specs.Pass.{unmet, passKw, passTotal, passGrants}
 use Rattle.share_out.specs.Rule.{Shared, runPasses, claimed}
+use Rattle.share_out.specs.Fit.{none}
 use Rattle.share_out.proofs.PassLaws.{passKw-unmet, passTotal-within, passTotal-pos, length-passGrants, at-passGrants, unmet-next}
 
 -- what holds whenever a pass may begin, with R left of the pool, g granted and `made` passes made
@@ -30,10 +28,6 @@ pub record Running (claims : List ℕ) (pool made R : ℕ) (g : List ℕ) : Type
   pub short : R ≤ sumTo (length claims) (unmet claims g)
   -- every pass made gave at least 1 kW
   pub counted : made + R ≤ pool
-
--- no grants yet
-abbrev pub none : List ℕ → List ℕ
-none claims = tab (length claims) (λ i. 0)
 
 module _ (claims weights : List ℕ) where
   pub at-none : (i : ℕ) → i < length claims → at (none claims) i ≡ 0

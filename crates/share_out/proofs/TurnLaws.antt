@@ -1,21 +1,22 @@
 -- Serving in turn as the code goes: holder after holder, with what is left of the pool.
 use Prim.Native.Nat.{ℕ, _+_, _-_, _≤_, _<_, min, zero-le}
 use mathlib.Core.Path.{_≡_, refl, sym, ap, _∙_}
-use mathlib.Core.Bool.{Bool, true, false, _&&_}
+use mathlib.Core.Bool.{Bool}
 use mathlib.Core.List.{List}
 use native.Mathlib.Nat.{le-refl}
 use native.Mathlib.Omega.{arith}
+use native.Mathlib.Decide.{decLt}
 use lib.ListN.{length, set, length-set}
+use lib.Seq.{ext-getD}
 use lib.Dec.{ltb}
 use borrow.Author.Tests.{ltb-true}
 use Rattle.base.specs.Choice.{pick}
 use Rattle.base.specs.Sums.{sumTo}
 use Rattle.base.specs.Words.{at, fill, tab}
-use Rattle.base.proofs.ChoiceLaws.{pick-by, and-left}
-use Rattle.base.proofs.SumLaws.{sumTo-zero, sumTo-more}
-use Rattle.base.proofs.WordLaws.{fill-zero, fill-turn, fill-whole, at-fill-past}
+use Rattle.base.proofs.ChoiceLaws.{pick-by}
+use Rattle.base.proofs.SumLaws.{sumTo-zero, sumTo-more, sumTo-mono}
+use Rattle.base.proofs.WordLaws.{fill-zero, fill-turn, fill-whole, at-fill, at-fill-past, length-fill, length-tab, at-tab}
 use Rattle.share_out.specs.Turn.{inTurn}
-use Rattle.share_out.specs.Pass.{unmet, isOpen}
 use Rattle.share_out.specs.Fit.{Raised, wants}
 use Rattle.share_out.proofs.PassLaws.{inTurn-sum}
 
@@ -60,20 +61,40 @@ module _ (pool : ℕ) (want : ℕ → ℕ) (g : List ℕ) (n : ℕ) where
             ∙ fill-whole n (λ j. at g j + inTurn pool want j) g size;
       }
 
+  -- with the pool empty the later holders get nothing
+  pub served-empty : (grants : List ℕ) (left i : ℕ) → length g ≡ n → Served pool want g n grants left i → left ≡ 0 →
+      Raised pool grants n g (inTurn pool want)
+  served-empty grants left i size s z =
+      let spent : pool ≤ sumTo i want = omega (arith, s .remains) in
+      record {
+        total = omega (arith, inTurn-sum pool want n, sumTo-mono i n want (s .inside));
+        grants =
+            s .written
+            ∙ ext-getD 0 (fill i (λ j. at g j + inTurn pool want j) g) (tab n (λ j. at g j + inTurn pool want j))
+            (length-fill i (λ j. at g j + inTurn pool want j) g ∙ size ∙ sym (length-tab n (λ j. at g j + inTurn pool want j)))
+            (λ k h.
+            let inside : k < n = omega (arith, length-fill i (λ j. at g j + inTurn pool want j) g) in
+            elim (decLt k i) [
+              | yes early ↦
+                  at-fill i (λ j. at g j + inTurn pool want j) g k early (omega (arith, s .inside))
+                  ∙ sym (at-tab n (λ j. at g j + inTurn pool want j) k inside)
+              | no late ↦
+                  at-fill-past i (λ j. at g j + inTurn pool want j) g k (omega arith)
+                  ∙ (omega (arith, sumTo-mono i k want (omega arith), at-tab n (λ j. at g j + inTurn pool want j) k inside))
+            ]);
+      }
+
 -- what the code finds a holder to want
-pub wants-is : (singly : Bool) (claims weights g grants : List ℕ) (i excess kw : ℕ) →
+pub wants-is : (singly : Bool) (claims brought g grants : List ℕ) (i excess kw : ℕ) →
     at grants i ≡ at g i → excess ≡ at claims i - at grants i →
-    kw ≡ pick singly (pick (ltb 0 excess && ltb 0 (at weights i)) 1 0) excess → kw ≡ wants singly claims weights g i
-unfolding isOpen
-wants-is singly claims weights g grants i excess kw same e h = rw (h, e, same)
+    kw ≡ pick singly (pick (ltb 0 (at brought i)) 1 0) excess → kw ≡ wants singly claims brought g i
+wants-is singly claims brought g grants i excess kw same e h = rw (h, e, same)
 
 -- it is within the unmet claim
-pub wants-unmet : (singly : Bool) (weight excess kw : ℕ) → kw ≡ pick singly (pick (ltb 0 excess && ltb 0 weight) 1 0) excess → kw ≤ excess
-wants-unmet singly weight excess kw h =
+pub wants-unmet : (singly : Bool) (weight excess kw : ℕ) → (0 < weight → 0 < excess) →
+    kw ≡ pick singly (pick (ltb 0 weight) 1 0) excess → kw ≤ excess
+wants-unmet singly weight excess kw some h =
     rw h
     (pick-by (λ k. k ≤ excess) singly _ _
-    (λ t.
-    pick-by (λ k. k ≤ excess) (ltb 0 excess && ltb 0 weight) 1 0
-    (λ o. ltb-true 0 excess (and-left (ltb 0 excess) (ltb 0 weight) o))
-    (λ f. zero-le))
+    (λ t. pick-by (λ k. k ≤ excess) (ltb 0 weight) 1 0 (λ o. some (ltb-true 0 weight o)) (λ f. zero-le))
     (λ f. le-refl excess))

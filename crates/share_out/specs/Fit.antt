@@ -1,5 +1,5 @@
 -- What the workers of a share-out are handed once numbers 5 and 9 are decided.
-use Prim.Native.Nat.{ℕ, _+_, _≤_, _<_}
+use Prim.Native.Nat.{ℕ, _+_, _*_, _/_, _≤_, _<_}
 use mathlib.Core.Path.{_≡_}
 use mathlib.Core.Bool.{Bool, false}
 use mathlib.Core.List.{List}
@@ -9,7 +9,7 @@ use Rattle.base.specs.Choice.{pick}
 use Rattle.base.specs.Sums.{sumTo}
 use Rattle.base.specs.Words.{at, tab}
 use Rattle.share_out.specs.Turn.{inTurn}
-use Rattle.share_out.specs.Pass.{unmet, isOpen}
+use Rattle.share_out.specs.Pass.{unmet, openWeight, openWeights}
 use Rattle.share_out.specs.Rule.{claimed, unfitNumbers}
 
 -- a weight and a grant for each of at most 32 claims
@@ -22,9 +22,32 @@ pub record Sized (claims weights grants : List ℕ) : Type 0 where
 abbrev pub AtMost : ℕ → List ℕ → ℕ → Type 0
 AtMost n l most = (i : ℕ) → i < n → at l i ≤ most
 
+-- no grants yet
+abbrev pub none : List ℕ → List ℕ
+none claims = tab (length claims) (λ i. 0)
+
+-- a weight in range for each of at most 32 claims, and room to note it
+pub record Weighable (claims weights noted : List ℕ) : Type 0 where
+  pub few : length claims ≤ 32
+  pub room : length noted ≡ 32
+  pub weighed : length weights ≡ length claims
+  pub ranged : AtMost (length claims) weights 100000000
+
+-- with g granted: all is W, and `brought` has the weight that each holder brings into it
+pub record Weighed (all : ℕ) (claims weights g brought : List ℕ) : Type 0 where
+  pub room : length brought ≡ 32
+  pub total : all ≡ openWeights claims weights g
+  pub each : (i : ℕ) → i < length claims → at brought i ≡ openWeight claims weights g i
+
+-- what serving in turn is handed: a grant for each of at most 32 claims, and `brought` above 0 only where a claim is unmet
+pub record Serving (claims brought grants : List ℕ) : Type 0 where
+  pub few : length claims ≤ 32
+  pub granted : length grants ≡ length claims
+  pub unmetThere : (i : ℕ) → i < length claims → 0 < at brought i → 0 < unmet claims grants i
+
 -- what holder i wants when holders are served in turn: singly, 1 kW if it is open; else its unmet claim
 abbrev pub wants : Bool → List ℕ → List ℕ → List ℕ → ℕ → ℕ
-wants singly claims weights g i = pick singly (pick (isOpen claims weights g i) 1 0) (unmet claims g i)
+wants singly claims brought g i = pick singly (pick (ltb 0 (at brought i)) 1 0) (unmet claims g i)
 
 -- given is what kw gives the first n holders together, and after has it on top of g
 pub record Raised (given : ℕ) (after : List ℕ) (n : ℕ) (g : List ℕ) (kw : ℕ → ℕ) : Type 0 where
@@ -32,9 +55,16 @@ pub record Raised (given : ℕ) (after : List ℕ) (n : ℕ) (g : List ℕ) (kw 
   pub grants : after ≡ tab n (λ i. at g i + kw i)
 
 -- a pass that gave something by weight is left as it is; else holders are served in turn, singly if any is open
-pub record Completed (given left all r : ℕ) (claims weights g after : List ℕ) : Type 0 where
+pub record Completed (given left all r : ℕ) (claims brought g after : List ℕ) : Type 0 where
   pub stands : 0 < given → (r ≡ given) × (after ≡ g)
-  pub served : given ≡ 0 → Raised r after (length claims) g (inTurn left (wants (ltb 0 all) claims weights g))
+  pub served : given ≡ 0 → Raised r after (length claims) g (inTurn left (wants (ltb 0 all) claims brought g))
+
+-- a pool and a weight in range, the weight among those that `all` sums, and the rate: left / all in parts of a kW, 2 ^ 38 of them
+pub record Rated (left weight all rate : ℕ) : Type 0 where
+  pub pooled : left ≤ 20000000
+  pub weighted : weight ≤ 100000000
+  pub among : weight ≤ all
+  pub rated : rate ≡ left * 274877906944 / all
 
 -- what the passes of a share-out are handed: lists that fit, a pool and numbers in range, claims above the pool, and no grants yet
 pub record Ready (pool : ℕ) (claims weights grants : List ℕ) : Type 0 where
@@ -42,7 +72,7 @@ pub record Ready (pool : ℕ) (claims weights grants : List ℕ) : Type 0 where
   pub pooled : pool ≤ 20000000
   pub weighted : AtMost (length claims) weights 100000000
   pub short : pool < claimed claims
-  pub fresh : grants ≡ tab (length claims) (λ i. 0)
+  pub fresh : grants ≡ none claims
 
 -- lists that fit and numbers in range
 pub record Accepted (pool : ℕ) (claims weights grants : List ℕ) : Type 0 where

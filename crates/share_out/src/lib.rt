@@ -1,16 +1,15 @@
 // The share-out: a pool over claims with weights, in passes (document 01, "Share-out").
 use base::Answer;
 ghost use mathlib.Core.Path.{_≡_};
-ghost use mathlib.Core.Bool.{Bool, not, _&&_, _||_, true, false};
-ghost use Prim.Native.Nat.{ℕ, _+_, _-_, _*_, _/_, _<_, _≤_, min};
+ghost use mathlib.Core.Bool.{_&&_, true, false};
+ghost use Prim.Native.Nat.{_+_, _-_, _*_, _/_, _<_, _≤_, min};
 ghost use lib.ListN.{length};
 ghost use Rattle.base.specs.Choice.{pick};
-ghost use Rattle.base.specs.Sums.{sumTo};
-ghost use Rattle.base.specs.Words.{at, tab, fill};
-ghost use Rattle.share_out.specs.Pass.{unmet, openWeights, oneEach, unweighted, passTotal, passGrants};
-ghost use Rattle.share_out.specs.Rule.{Shared, claimed, runPasses, shared, unfitLengths, unfitNumbers, sharedAnswer, shareOut};
+ghost use Rattle.base.specs.Words.{tab};
+ghost use Rattle.share_out.specs.Pass.{unmet};
+ghost use Rattle.share_out.specs.Rule.{claimed, shared, unfitLengths, unfitNumbers, sharedAnswer, shareOut};
 ghost use Rattle.share_out.specs.Turn.{inTurn};
-ghost use Rattle.share_out.specs.Fit.{Sized, AtMost, Raised, Completed, Ready, Accepted, wants};
+ghost use Rattle.share_out.specs.Fit.{AtMost, Weighable, Weighed, Rated, Serving, Raised, Completed, Ready, Accepted, none, wants};
 ghost use lib.Dec.{leb, ltb};
 
 const MOST_HOLDERS: usize = 32;
@@ -20,6 +19,9 @@ const MOST_POOL_KW: u64 = 20_000_000;
 const MOST_CLAIM_KW: u64 = 20_480_000_000;
 
 const MOST_WEIGHT: u64 = 100_000_000;
+
+// The parts of a kW that a rate counts: 2 to the power 38.
+const PARTS: u64 = 274_877_906_944;
 
 // The smaller of two numbers.
 fn smaller(a: u64, b: u64) -> u64
@@ -111,42 +113,62 @@ fn open_weight(unmet: u64, weight: u64) -> u64
     if 0 < unmet { weight } else { 0 }
 }
 
-// W, the open weights' sum.
-fn open_weights(claims: &[u64], weights: &[u64], grants: &[u64]) -> u64
-    requires { ⌜ Sized (now claims) (now weights) (now grants) × AtMost (length (now claims)) (now weights) 100000000 ⌝ }
-    ensures { λ r. ⌜ r ≡ openWeights (now (claims .entry)) (now (weights .entry)) (now (grants .entry)) ⌝ }
+// Before anything is granted, notes the weight that each holder brings into W; hands back W, the open weights' sum.
+fn weigh_open(claims: &[u64], weights: &[u64], open_weights: &mut [u64; MOST_HOLDERS]) -> u64
+    requires { ⌜ Weighable (now claims) (now weights) (now open_weights) ⌝ }
+    ensures { λ r. ⌜ Weighed r (now (claims .entry)) (now (weights .entry)) (none (now (claims .entry))) (now (open_weights .exit)) ⌝ }
 {
     let mut all = 0;
     let mut i = 0;
     while i < claims.len() {
-        all += open_weight(excess(claims[i], grants[i]), weights[i]);
+        let weight = open_weight(claims[i], weights[i]);
+        open_weights[i] = weight;
+        all += weight;
         i += 1;
     }
     all
 }
 
-// A holder's part by weight: the smaller of its unmet claim and left × weight / all rounded down.
-fn part_by_weight(left: u64, weight: u64, all: u64, unmet: u64) -> u64
-    requires { ⌜ (left ≤ 20000000) × (weight ≤ 100000000) ⌝ }
-    ensures { λ r. ⌜ r ≡ min unmet (left * weight / all) ⌝ }
+// The rate of a pass: what a weight of 1 gets, in parts of a kW rounded down.
+fn rate_of(left: u64, all: u64) -> u64
+    requires { ⌜ left ≤ 20000000 ⌝ }
+    ensures { λ r. ⌜ r ≡ left * 274877906944 / all ⌝ }
 {
     if all == 0 {
         return 0;
     }
-    if unmet == 0 {
-        return 0;
+    left * PARTS / all
+}
+
+// left × weight / all rounded down, by the rate: the exact number of parts is at least weight × rate and at most
+// `weight` more, so a division is needed only where a whole kW lies between the two.
+fn portion(left: u64, weight: u64, all: u64, rate: u64) -> u64
+    requires { ⌜ Rated left weight all rate ⌝ }
+    ensures { λ r. ⌜ r ≡ left * weight / all ⌝ }
+{
+    let parts = weight * rate;
+    let kw = parts / PARTS;
+    if (parts + weight) / PARTS == kw {
+        return kw;
     }
-    smaller(unmet, left * weight / all)
+    left * weight / all
+}
+
+// The weight that a holder brings into W after its part: none once the part meets its unmet claim.
+fn weight_after(part: u64, unmet: u64, weight: u64) -> u64
+    ensures { λ r. ⌜ r ≡ pick (ltb part unmet) weight 0 ⌝ }
+{
+    if part < unmet { weight } else { 0 }
 }
 
 // What a holder wants when holders are served in turn: singly 1 kW if it is open, else its unmet claim.
 fn want(singly: bool, unmet: u64, weight: u64) -> u64
-    ensures { λ r. ⌜ r ≡ pick singly (pick (ltb 0 unmet && ltb 0 weight) 1 0) unmet ⌝ }
+    ensures { λ r. ⌜ r ≡ pick singly (pick (ltb 0 weight) 1 0) unmet ⌝ }
 {
     if !singly {
         return unmet;
     }
-    if (0 < unmet) & (0 < weight) { 1 } else { 0 }
+    if 0 < weight { 1 } else { 0 }
 }
 
 // Serves holders in turn, lowest number first, until the pool is empty; hands back the kW given.
@@ -154,16 +176,22 @@ fn serve_in_turn(
     left: u64,
     singly: bool,
     claims: &[u64],
-    weights: &[u64],
+    open_weights: &[u64; MOST_HOLDERS],
     grants: &mut [u64],
 ) -> u64
-    requires { ⌜ Sized (now claims) (now weights) (now grants) ⌝ }
-    ensures { λ r. ⌜ Raised r (now (grants .exit)) (length (now (claims .entry))) (now (grants .entry)) (inTurn left (wants singly (now (claims .entry)) (now (weights .entry)) (now (grants .entry)))) ⌝ }
+    requires { ⌜ Serving (now claims) (now open_weights) (now grants) ⌝ }
+    ensures { λ r. ⌜ Raised r (now (grants .exit)) (length (now (claims .entry))) (now (grants .entry)) (inTurn left (wants singly (now (claims .entry)) (now (open_weights .entry)) (now (grants .entry)))) ⌝ }
 {
     let mut rest = left;
     let mut i = 0;
     while i < claims.len() {
-        let kw = smaller(want(singly, excess(claims[i], grants[i]), weights[i]), rest);
+        if rest == 0 {
+            return left;
+        }
+        let kw = smaller(
+            want(singly, excess(claims[i], grants[i]), open_weights[i]),
+            rest,
+        );
         grants[i] += kw;
         rest -= kw;
         i += 1;
@@ -177,39 +205,49 @@ fn complete(
     left: u64,
     all: u64,
     claims: &[u64],
-    weights: &[u64],
+    open_weights: &[u64; MOST_HOLDERS],
     grants: &mut [u64],
 ) -> u64
-    requires { ⌜ Sized (now claims) (now weights) (now grants) ⌝ }
-    ensures { λ r. ⌜ Completed given left all r (now (claims .entry)) (now (weights .entry)) (now (grants .entry)) (now (grants .exit)) ⌝ }
+    requires { ⌜ Serving (now claims) (now open_weights) (now grants) ⌝ }
+    ensures { λ r. ⌜ Completed given left all r (now (claims .entry)) (now (open_weights .entry)) (now (grants .entry)) (now (grants .exit)) ⌝ }
 {
     if 0 < given {
         return given;
     }
-    serve_in_turn(left, 0 < all, claims, weights, grants)
+    serve_in_turn(left, 0 < all, claims, open_weights, grants)
 }
 
-// Shares the pool out in passes until it is empty; hands back how many were made.
+// Shares the pool out in passes until it is empty; hands back how many were made. From pass to pass it keeps W
+// (`all`) and the weight that each holder brings into it, which is 0 once its claim is met.
 fn by_passes(pool: u64, claims: &[u64], weights: &[u64], grants: &mut [u64]) -> u64
     requires { ⌜ Ready pool (now claims) (now weights) (now grants) ⌝ }
     ensures { λ r. ⌜ shared pool (now (claims .entry)) (now (weights .entry)) ≡ record { grants = now (grants .exit); passes = r } ⌝ }
 {
+    let mut open_weights = [0u64; MOST_HOLDERS];
+    let mut all = weigh_open(claims, weights, &mut open_weights);
     let mut left = pool;
     let mut made = 0;
     let passes = 'passes: loop {
         if left == 0 {
             break 'passes made;
         }
-        let all = open_weights(claims, weights, grants);
+        let rate = rate_of(left, all);
         let mut given = 0;
+        let mut still_open = 0;
         let mut i = 0;
         while i < claims.len() {
-            let kw = part_by_weight(left, weights[i], all, excess(claims[i], grants[i]));
+            let unmet = claims[i] - grants[i];
+            let part = portion(left, open_weights[i], all, rate);
+            let kw = smaller(part, unmet);
             grants[i] += kw;
             given += kw;
+            let weight = weight_after(part, unmet, open_weights[i]);
+            open_weights[i] = weight;
+            still_open += weight;
             i += 1;
         }
-        left -= complete(given, left, all, claims, weights, grants);
+        left -= complete(given, left, all, claims, &open_weights, grants);
+        all = still_open;
         made += 1;
     };
     passes

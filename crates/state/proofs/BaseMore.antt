@@ -7,6 +7,7 @@ use mathlib.Core.Logic.{_≢_, ⊎-elim}
 use native.Mathlib.Nat.{le-refl, mul-one, add-zero, le-step, lt-suc-self, not-suc-le-zero}
 use native.Mathlib.Numerals.{add-one}
 use native.Mathlib.Omega.{arith}
+use lib.Bits.{bitOr, or-add-and, and-le-l, and-le-r}
 use lib.Dec.{leb, eqb}
 use lib.ListN.{set}
 use borrow.Author.Tests.{leb-true, le-leb, eqb-true, eq-eqb, ne-eqb}
@@ -201,3 +202,14 @@ sumTo-change (suc n) f g k l same =
     let last : g n ≡ f n = same n (lt-suc-self n) (omega arith) in
     omega (arith, sumTo-suc n f, sumTo-suc n g))
     (below-suc l)
+
+-- the bits of two words together are 0 where both words are
+pub or-none : (a b : ℕ) → eqb (bitOr a b) 0 ≡ (eqb a 0 && leb b 0)
+or-none a b =
+    let sum = or-add-and a b in
+    same-test (eqb (bitOr a b) 0) (eqb a 0 && leb b 0)
+    (λ (e : eqb (bitOr a b) 0 ≡ true). both (eqb a 0) (leb b 0)
+    (eq-eqb a 0 (omega (arith, sum, and-le-r a b, eqb-true (bitOr a b) 0 e)))
+    (le-leb b 0 (omega (arith, sum, and-le-l a b, eqb-true (bitOr a b) 0 e))))
+    (λ (e : eqb a 0 && leb b 0 ≡ true). eq-eqb (bitOr a b) 0
+    (omega (arith, sum, eqb-true a 0 (both-left (eqb a 0) (leb b 0) e), leb-true b 0 (both-right (eqb a 0) (leb b 0) e))))

@@ -11,12 +11,13 @@ use borrow.Author.Tests.{lt-ltb, le-leb, leb-true, ltb-true}
 use Rattle.base.specs.Choice.{pick}
 use Rattle.base.specs.Sums.{sumTo, allTo}
 use Rattle.base.specs.Words.{at, fill}
-use Rattle.base.proofs.SumLaws.{sumTo-add, sumTo-bound}
+use Rattle.base.proofs.ChoiceLaws.{and-both}
+use Rattle.base.proofs.SumLaws.{sumTo-add, sumTo-bound, allTo-all}
 use Rattle.base.proofs.WordLaws.{at-fill}
 use Rattle.state.specs.Layout.{stateWords, interties, holders, limitOf, loadShareOf, step5ShareOf, step7TotalOf, reservedOf, unplacedOf, sellersOf, takingsOf, existingAt, existingOf, preRaAt, preRaOf, newUseAt, newUseOf, placedAt, placedOf, takenAt, takenOf, lockedOf, termOf, pendingOf, ofHolder, stageOf}
 use Rattle.state.specs.Orderly.{orderly, sizesInRange, stageInRange, limitsInRange, loadSharesInRange, balanced, lockedWithinPlaced, pendingWithinUnplaced, kwInRange, takingsInRange, sellersAreHolders, termsFit, termFits, intertieKw, noRequests}
 use Rattle.state.specs.Check.{Sized, fieldsInRange, rowsInOrder, pairKw, limitMet, lockFits, pairLockFits, mostPending}
-use Rattle.state.proofs.BaseMore.{fault, same-test, both-left, and-left-comm, allTo-same, allTo-both, allTo-pairs-both, four, sum-turn}
+use Rattle.state.proofs.BaseMore.{fault, same-test, both-left, both-right, each-le, and-left-comm, allTo-same, allTo-both, allTo-pairs-both, four, sum-turn}
 
 -- a term at most 30, and 0 exactly where nothing is locked
 term-test : (locked term : ℕ) → (leb term 30 && Bool·beq (eqb locked 0) (eqb term 0)) ≡ termFits locked term
@@ -64,6 +65,42 @@ locks-are s =
     allTo-pairs-both (holders s) (interties s)
     (λ h i. leb (lockedOf s h i) (placedOf s h i))
     (λ h i. termFits (lockedOf s h i) (termOf s h i))
+
+-- a holder without a lock has its locks in order
+unlocked : (placed locked term : ℕ) → locked ≤ 0 → term ≤ 0 → lockFits placed locked term ≡ true
+unlocked placed zero zero l t = rw (leb·zero placed) refl
+unlocked placed zero (suc t) l h = absurd (omega arith)
+unlocked placed (suc k) t l h = absurd (omega arith)
+
+pub no-lock-fits :
+    (s : List ℕ) (h : ℕ) {b : Bool}
+    → b ≡ (allTo (interties s) (λ i. leb (lockedOf s h i) 0) && allTo (interties s) (λ i. leb (termOf s h i) 0)) → b ≡ true
+    → true ≡ allTo (interties s) (λ i. pairLockFits s h i)
+no-lock-fits s h e t =
+    let locked : ℕ → ℕ = λ i. lockedOf s h i in
+    let term : ℕ → ℕ = λ i. termOf s h i in
+    let none : ℕ → ℕ = λ i. 0 in
+    let no-locked = both-left (allTo (interties s) (λ i. leb (locked i) 0)) (allTo (interties s) (λ i. leb (term i) 0)) (sym e ∙ t) in
+    let no-terms = both-right (allTo (interties s) (λ i. leb (locked i) 0)) (allTo (interties s) (λ i. leb (term i) 0)) (sym e ∙ t) in
+    sym (allTo-all (interties s) (λ i. pairLockFits s h i) (λ i l.
+    unlocked (placedOf s h i) (locked i) (term i) (each-le (interties s) locked none no-locked i l) (each-le (interties s) term none no-terms i l)))
+
+-- words are all 0 where their sum is
+zero-both : (a b : ℕ) → leb (a + b) 0 ≡ (leb a 0 && leb b 0)
+zero-both a b =
+    same-test (leb (a + b) 0) (leb a 0 && leb b 0)
+    (λ (e : leb (a + b) 0 ≡ true). and-both _ _ (le-leb a 0 (omega (arith, leb-true (a + b) 0 e))) (le-leb b 0 (omega (arith, leb-true (a + b) 0 e))))
+    (λ (e : leb a 0 && leb b 0 ≡ true). le-leb (a + b) 0 (omega (arith, leb-true a 0 (both-left (leb a 0) (leb b 0) e), leb-true b 0 (both-right (leb a 0) (leb b 0) e))))
+
+zero-sum : (n : ℕ) (f : ℕ → ℕ) → allTo n (λ i. leb (f i) 0) ≡ leb (sumTo n f) 0
+unfolding allTo sumTo
+zero-sum zero f = sym (leb·zero 0)
+zero-sum (suc n) f = ap (λ (b : Bool). b && leb (f n) 0) (zero-sum n f) ∙ sym (zero-both (sumTo n f) (f n))
+
+-- pending that may only be 0, from the words one by one
+pub none-pending : (s : List ℕ) (h : ℕ) {most : ℕ} {b : Bool} → most ≡ mostPending s h → most ≡ 0
+    → b ≡ allTo (interties s) (λ i. leb (pendingOf s h i) 0) → b ≡ leb (ofHolder pendingOf s h) (mostPending s h)
+none-pending s h m z e = e ∙ zero-sum (interties s) (λ i. pendingOf s h i) ∙ ap (leb (ofHolder pendingOf s h)) (sym z ∙ m)
 
 -- nothing is at most 0, and within any bound
 zero-test : (kw most : ℕ) → leb kw 0 ≡ (leb kw most && eqb kw 0)

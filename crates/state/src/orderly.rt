@@ -9,7 +9,7 @@ ghost use lib.ListN.{length};
 ghost use Rattle.base.specs.Choice.{pick};
 ghost use Rattle.base.specs.Sums.{sumTo, allTo};
 ghost use Rattle.base.specs.Words.{at, fill};
-ghost use Rattle.state.specs.Layout.{place, interties, holders};
+ghost use Rattle.state.specs.Layout.{place, interties, holders, lockedOf, termOf, pendingOf, ofHolder};
 ghost use Rattle.state.specs.Orderly.{orderly, sizesInRange, stageInRange, balanced, lockedWithinPlaced, pendingWithinUnplaced, termsFit};
 ghost use Rattle.state.specs.Check.{Sized, fieldsInRange, pairKw, limitMet, lockFits, pairLockFits, mostPending, rowsInOrder};
 
@@ -85,6 +85,18 @@ fn row_within(state: &[u32], row: u32, count: usize, most: u32) -> bool
         faults += above(row_word(state, row, column), most);
     }
     faults == 0
+}
+
+// Whether the first words of a row are all 0.
+fn row_is_clear(state: &[u32], row: u32, count: usize) -> bool
+    requires { ⌜ (16000 ≤ length (now state)) × (row < 301) × (count ≤ 48) ⌝ }
+    ensures { λ r. ⌜ r ≡ allTo count (λ (c : ℕ). leb (at (now (state .entry)) (place row c)) 0) ⌝ }
+{
+    let mut bits: u32 = 0;
+    for column in 0..count {
+        bits = bits | row_word(state, row, column);
+    }
+    bits == 0
 }
 
 // The sum of a row's first words.
@@ -210,8 +222,8 @@ fn pair_fault(state: &[u32], holder: u32, intertie: usize) -> u32
     )
 }
 
-// Whether the locks of a holder are in order.
-fn holder_locks_in_order(state: &[u32], holder: u32) -> bool
+// Whether the pairs of a holder have their locks in order.
+fn pair_locks_in_order(state: &[u32], holder: u32) -> bool
     requires { ⌜ Sized (now state) × (holder < 32) ⌝ }
     ensures { λ r. ⌜ r ≡ allTo (interties (now (state .entry))) (λ (i : ℕ). pairLockFits (now (state .entry)) holder i) ⌝ }
 {
@@ -220,6 +232,28 @@ fn holder_locks_in_order(state: &[u32], holder: u32) -> bool
         faults += pair_fault(state, holder, intertie);
     }
     faults == 0
+}
+
+// Whether a holder has no locked kW and no lock term.
+fn has_no_lock(state: &[u32], holder: u32) -> bool
+    requires { ⌜ Sized (now state) × (holder < 32) ⌝ }
+    ensures { λ r. ⌜ r ≡ (allTo (interties (now (state .entry))) (λ (i : ℕ). leb (lockedOf (now (state .entry)) holder i) 0)
+        && allTo (interties (now (state .entry))) (λ (i : ℕ). leb (termOf (now (state .entry)) holder i) 0)) ⌝ }
+{
+    let interties = intertie_count(state);
+    row_is_clear(state, layout::LOCKED + holder, interties)
+        & row_is_clear(state, layout::TERM + holder, interties)
+}
+
+// Whether the locks of a holder are in order. Most holders have none, which is quicker to see.
+fn holder_locks_in_order(state: &[u32], holder: u32) -> bool
+    requires { ⌜ Sized (now state) × (holder < 32) ⌝ }
+    ensures { λ r. ⌜ r ≡ allTo (interties (now (state .entry))) (λ (i : ℕ). pairLockFits (now (state .entry)) holder i) ⌝ }
+{
+    if has_no_lock(state, holder) {
+        return true;
+    }
+    pair_locks_in_order(state, holder)
 }
 
 // Locked kW and lock terms.
@@ -246,16 +280,27 @@ fn most_pending(state: &[u32], holder: u32) -> u64
     row_word(state, layout::UNPLACED, holder as usize) as u64
 }
 
+// Whether a holder's pending kW are within their most. Where that is 0, so is each of them.
+fn holder_pending_in_order(state: &[u32], holder: u32) -> bool
+    requires { ⌜ Sized (now state) × (holder < 32) ⌝ }
+    ensures { λ r. ⌜ r ≡ leb (ofHolder pendingOf (now (state .entry)) holder) (mostPending (now (state .entry)) holder) ⌝ }
+{
+    let interties = intertie_count(state);
+    let most = most_pending(state, holder);
+    if most == 0 {
+        return row_is_clear(state, layout::PENDING + holder, interties);
+    }
+    row_sum(state, layout::PENDING + holder, interties) <= most
+}
+
 // Pending kW.
 fn pending_in_order(state: &[u32]) -> bool
     requires { ⌜ Sized (now state) ⌝ }
     ensures { λ r. ⌜ r ≡ pendingWithinUnplaced (now (state .entry)) ⌝ }
 {
-    let interties = intertie_count(state);
     let mut in_order = true;
     for holder in 0..holder_count(state) {
-        let pending = row_sum(state, layout::PENDING + holder, interties);
-        in_order = in_order & (pending <= most_pending(state, holder));
+        in_order = in_order & holder_pending_in_order(state, holder);
     }
     in_order
 }

@@ -1,4 +1,4 @@
-//! Compares the compiled library with the independent program. Prints a line for each suite and, last,
+//! Compares the compiled library and the programs with the independent program. Prints a line for each suite and, last,
 //! `N passed, M failed`; a difference is printed whole and ends the run with status 1.
 
 mod calls;
@@ -7,17 +7,22 @@ mod carry_inputs;
 mod changes;
 mod closings;
 mod damages;
+mod journal_texts;
+mod journals;
 mod layout;
 mod lists;
 mod numbers;
 mod openings;
 mod postings;
+mod programs;
 mod runs;
 mod sames;
 mod share_outs;
 mod sheet_refusals;
 mod sheets;
 mod singles;
+mod table_texts;
+mod tables;
 mod tally;
 mod years;
 mod zankurbe;
@@ -51,6 +56,7 @@ fn suite(
 }
 
 fn main() {
+    programs::make_folder();
     let suites = [
         suite("share-outs", share_outs::CASES, &[], |number, _| {
             share_outs::compare(number)
@@ -85,7 +91,15 @@ fn main() {
         ),
         suite("sames", sames::CASES, sames::FLOORS, sames::compare),
         suite("carries", carries::CASES, carries::FLOORS, carries::compare),
+        suite(
+            "journals",
+            journals::CASES,
+            journals::FLOORS,
+            journals::compare,
+        ),
+        suite("tables", tables::CASES, tables::FLOORS, tables::compare),
     ];
+    programs::remove_folder();
     let passed: u64 = suites.iter().map(|s| s.0).sum();
     let failed: u64 = suites.iter().map(|s| s.1).sum();
     println!("{passed} passed, {failed} failed");

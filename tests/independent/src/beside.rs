@@ -168,7 +168,7 @@ fn lines(sheet: &Sheet) -> String {
 }
 
 /// Adds one line: a letter, then each number after a blank.
-fn line(text: &mut String, letter: char, numbers: &[u64]) {
+pub(crate) fn line(text: &mut String, letter: char, numbers: &[u64]) {
     text.push(letter);
     for number in numbers {
         // Writing to a String never fails.
@@ -178,7 +178,7 @@ fn line(text: &mut String, letter: char, numbers: &[u64]) {
 }
 
 /// Words added in 64 bits.
-fn sum(words: &[u32]) -> u64 {
+pub(crate) fn sum(words: &[u32]) -> u64 {
     words.iter().map(|&word| u64::from(word)).sum()
 }
 

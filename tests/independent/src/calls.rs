@@ -263,7 +263,7 @@ impl Year {
     }
 
     /// A holder's kW over all interties.
-    fn kw_of(&self, pairs: &PerPair, holder: usize) -> u64 {
+    pub(crate) fn kw_of(&self, pairs: &PerPair, holder: usize) -> u64 {
         pairs[..self.interties as usize]
             .iter()
             .map(|words| u64::from(words[holder]))

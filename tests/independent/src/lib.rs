@@ -7,14 +7,18 @@
 //! - [`opening`]: Steps 1 to 7, from a sheet to the state.
 //! - [`calls`]: trade, request, close, take, move and lock.
 //! - [`beside`]: carry, same and post.
+//! - [`journal`]: a journal of calls read from text, run and printed.
+//! - [`table`]: a sheet as comma-separated text, and back.
 #![forbid(unsafe_code)]
 
 pub mod answer;
 pub mod beside;
 pub mod calls;
+pub mod journal;
 pub mod opening;
 pub mod share_out;
 pub mod sheet;
+pub mod table;
 pub mod year;
 
 pub use answer::Answer;

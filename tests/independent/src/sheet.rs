@@ -196,7 +196,7 @@ impl<'a> Sheet<'a> {
 }
 
 /// A 32-bit little-endian word from its four bytes.
-fn word(bytes: &[u8]) -> u32 {
+pub(crate) fn word(bytes: &[u8]) -> u32 {
     u32::from_le_bytes([bytes[0], bytes[1], bytes[2], bytes[3]])
 }
 

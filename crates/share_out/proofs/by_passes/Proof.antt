@@ -1,109 +1,162 @@
 -- `by_passes` meets its contract: each turn of the outer loop is a pass of the definition (`LoopLaws`).
-use Prim.Native.Nat.{_-_}
-use mathlib.Core.Path.{_≡_}
+use Prim.Native.Nat.{_-_, _<_}
+use mathlib.Core.Path.{_≡_, refl, _∙_}
 use native.Mathlib.Omega.{arith}
 use lib.ListN.{length}
 use denote.Ref.{now}
-use Rattle.share_out.specs.Pass.{byWeight}
-use Rattle.share_out.proofs.PassLaws.{byWeight-within}
-use Rattle.share_out.proofs.LoopLaws.{Given, given-none, given-later, given-next, given-most, given-all, part-is, Passed, completed-pass, Passing, passing-first, passing-next, passing-last, passed-within, passed-some}
+use Rattle.share_out.specs.Pass.{openWeight, byWeight}
+use Rattle.share_out.specs.Fit.{Weighed, Raised}
+use Rattle.share_out.proofs.PassLaws.{openWeight-most, byWeight-within}
+use Rattle.share_out.proofs.LoopLaws.{Given, given-none, given-later, given-next, given-most, given-all, Noted, noted-none, noted-later, noted-next, noted-most, noted-weights, weighted, rated-open, part-is, after-is, Passed, completed-pass, weighed-next, serving, Passing, passing-first, passing-next, passing-last, passed-within, passed-some}
 use borrow.Author.Needs.{needs}
 use Rattle.share_out.proofs.by_passes.Statement.{statement}
 use Rattle.share_out.proofs.by_passes.Tie as tie
 
 abbrev Inv-loop : tie.InvT-loop
-Inv-loop pool claims weights grants₀ left made all given₀ i₀ grants given i =
+Inv-loop pool claims weights grants₀ open-weights₀ all left made rate given₀ still-open₀ i₀ grants open-weights given still-open i =
     Given (byWeight claims weights left grants₀) grants₀ (length claims) grants given i
+    × Noted (openWeight claims weights (weighted claims weights left grants₀)) open-weights₀ (length claims) open-weights still-open i
 
 abbrev μ-loop : tie.MeasureT-loop
-μ-loop pool claims weights grants₀ left made all given₀ i₀ grants given i = length claims - i
+μ-loop pool claims weights grants₀ open-weights₀ all left made rate given₀ still-open₀ i₀ grants open-weights given still-open i = length claims - i
 
 abbrev Inv-passes : tie.InvT-passes
-Inv-passes pool claims weights grants₀ left₀ made₀ grants left made = Passing pool claims weights grants left made
+Inv-passes pool claims weights grants₀ open-weights₀ all₀ left₀ made₀ grants open-weights all left made =
+    Passing pool claims weights grants left made
+    × (0 < left → Weighed all claims weights grants open-weights)
 
 abbrev μ-passes : tie.MeasureT-passes
-μ-passes pool claims weights grants₀ left₀ made₀ grants left made = left
+μ-passes pool claims weights grants₀ open-weights₀ all₀ left₀ made₀ grants open-weights all left made = left
+
+weigh-open-requires : tie.Need-weigh-open-requires Inv-loop μ-loop Inv-passes μ-passes
+weigh-open-requires c κs =
+    let p = c .before .before .before .before .pre in
+    record { few = p .sized .few; room = refl; weighed = p .sized .weighed; ranged = p .weighted }
 
 passes-holds : tie.Need-passes-holds Inv-loop μ-loop Inv-passes μ-passes
 passes-holds c =
-    let p = c .before .before .before .pre in
-    rw (p .fresh) (passing-first _ _ _ (p .short))
-
-open-weights-requires : tie.Need-open-weights-requires Inv-loop μ-loop Inv-passes μ-passes
-open-weights-requires c κs = search needs
-
-loop-holds : tie.Need-loop-holds Inv-loop μ-loop Inv-passes μ-passes
-loop-holds c = given-none _ _ _
-
-mul-part-by-weight : tie.Need-mul-part-by-weight Inv-loop μ-loop Inv-passes μ-passes
-mul-part-by-weight c = search needs
-
-shared-slice-read-part-by-weight :
-    tie.Need-shared-slice-read-part-by-weight Inv-loop μ-loop Inv-passes μ-passes
-shared-slice-read-part-by-weight c = search needs
-
-mul-excess : tie.Need-mul-excess Inv-loop μ-loop Inv-passes μ-passes
-mul-excess c = search needs
-
-shared-slice-read-excess : tie.Need-shared-slice-read-excess Inv-loop μ-loop Inv-passes μ-passes
-shared-slice-read-excess c = search needs
-
-mul-excess-2 : tie.Need-mul-excess-2 Inv-loop μ-loop Inv-passes μ-passes
-mul-excess-2 c = search needs
-
-slice-read-excess : tie.Need-slice-read-excess Inv-loop μ-loop Inv-passes μ-passes
-slice-read-excess c = search needs
-
-excess-requires : tie.Need-excess-requires Inv-loop μ-loop Inv-passes μ-passes
-excess-requires c κs = search needs
-
-part-by-weight-requires : tie.Need-part-by-weight-requires Inv-loop μ-loop Inv-passes μ-passes
-part-by-weight-requires c κs =
-    let p = c .before .before .before .before .before .before .before .before .before .before .before .before .before .pre in (
-      omega (arith, p .pooled, c .before .before .before .before .before .before .before .before .before .passes .inv .running .counted),
-      p .weighted (c .before .before .before .before .before .loop .i) (c .before .before .before .before .loop-test .taken),
+    let p = c .before .before .before .before .before .pre in (
+      rw (p .fresh) (passing-first _ _ _ (p .short)),
+      λ some. rw (p .fresh) (c .weigh-open .ensures),
     )
 
+rate-of-requires : tie.Need-rate-of-requires Inv-loop μ-loop Inv-passes μ-passes
+rate-of-requires c κs = omega (arith, c .before .before .before .before .before .before .before .pre .pooled, c .before .passes .inv .0 .running .counted)
+
+loop-holds : tie.Need-loop-holds Inv-loop μ-loop Inv-passes μ-passes
+loop-holds c = (given-none _ _ _, noted-none _ _ _)
+
+mul-unmet : tie.Need-mul-unmet Inv-loop μ-loop Inv-passes μ-passes
+mul-unmet c = search needs
+
+shared-slice-read-unmet : tie.Need-shared-slice-read-unmet Inv-loop μ-loop Inv-passes μ-passes
+shared-slice-read-unmet c = search needs
+
+mul-unmet-2 : tie.Need-mul-unmet-2 Inv-loop μ-loop Inv-passes μ-passes
+mul-unmet-2 c = search needs
+
+slice-read-unmet : tie.Need-slice-read-unmet Inv-loop μ-loop Inv-passes μ-passes
+slice-read-unmet c = omega (arith, c .before .before .before .loop .inv .0 .size, c .before .before .before .before .before .before .passes .inv .0 .running .size)
+
+sub-unmet : tie.Need-sub-unmet Inv-loop μ-loop Inv-passes μ-passes
+sub-unmet c =
+    omega (
+      arith,
+      given-later _ _ _ _ _ _ (c .before .before .before .loop .inv .0),
+      c .before .before .before .before .before .before .passes .inv .0 .running .within (c .before .before .before .loop .i) (c .before .before .loop-test .taken),
+    )
+
+mul-portion : tie.Need-mul-portion Inv-loop μ-loop Inv-passes μ-passes
+mul-portion c = search needs
+
+array-read-portion : tie.Need-array-read-portion Inv-loop μ-loop Inv-passes μ-passes
+array-read-portion c = omega (arith, c .before .before .before .before .before .before .before .before .before .before .before .before .pre .sized .few)
+
+portion-requires : tie.Need-portion-requires Inv-loop μ-loop Inv-passes μ-passes
+portion-requires c κs =
+    let p = c .before .before .before .before .before .before .before .before .before .before .before .before .pre in
+    rated-open (now (c .before .before .before .before .before .before .before .before .before .before .before .before .args .claims)) (now (c .before .before .before .before .before .before .before .before .before .before .before .before .args .weights)) (c .before .before .before .before .before .before .passes .left) (c .before .before .before .before .before .before .passes .grants) (c .before .before .before .before .before .before .passes .open-weights) (c .before .before .before .loop .i) (c .before .before .before .before .before .before .passes .all) _ _
+    (omega (arith, p .pooled, c .before .before .before .before .before .before .passes .inv .0 .running .counted)) (p .weighted) (c .before .before .loop-test .taken)
+    (c .before .before .before .before .before .before .passes .inv .1 (omega arith)) (c .before .before .before .before .rate-of .ensures) (noted-later _ _ _ _ _ _ (c .before .before .before .loop .inv .1))
+
+smaller-requires : tie.Need-smaller-requires Inv-loop μ-loop Inv-passes μ-passes
+smaller-requires c κs = search needs
+
 -- the holder's part is the definition's
-part : (c : tie.After-part-by-weight Inv-loop μ-loop Inv-passes μ-passes) →
-    c .part-by-weight .result
-    ≡ byWeight (now (c .before .before .before .before .before .before .before .before .before .before .before .before .before .before .args .claims)) (now (c .before .before .before .before .before .before .before .before .before .before .before .before .before .before .args .weights)) (c .before .before .before .before .before .before .before .before .before .before .passes .left) (c .before .before .before .before .before .before .before .before .before .before .passes .grants) (c .before .before .before .before .before .before .loop .i)
+part : (c : tie.After-smaller Inv-loop μ-loop Inv-passes μ-passes) →
+    c .smaller .result
+    ≡ byWeight (now (c .before .before .before .before .before .before .before .before .before .before .before .before .before .before .args .claims)) (now (c .before .before .before .before .before .before .before .before .before .before .before .before .before .before .args .weights)) (c .before .before .before .before .before .before .before .before .passes .left) (c .before .before .before .before .before .before .before .before .passes .grants) (c .before .before .before .before .before .loop .i)
 part c =
-    part-is (now (c .before .before .before .before .before .before .before .before .before .before .before .before .before .before .args .claims)) (now (c .before .before .before .before .before .before .before .before .before .before .before .before .before .before .args .weights)) (c .before .before .before .before .before .before .before .before .before .before .passes .left) (c .before .before .before .before .before .before .before .before .before .before .passes .grants) (c .before .before .before .before .before .before .loop .grants) (c .before .before .before .before .before .before .loop .i)
-    _ (c .before .excess .result) _
-    (c .before .before .before .before .before .before .before .open-weights .ensures)
-    (given-later _ _ _ _ _ _ (c .before .before .before .before .before .before .loop .inv))
-    (c .before .excess .ensures)
-    (c .part-by-weight .ensures)
+    part-is (now (c .before .before .before .before .before .before .before .before .before .before .before .before .before .before .args .claims)) (now (c .before .before .before .before .before .before .before .before .before .before .before .before .before .before .args .weights)) (c .before .before .before .before .before .before .before .before .passes .left) (c .before .before .before .before .before .before .before .before .passes .grants) (c .before .before .before .before .before .loop .grants) (c .before .before .before .before .before .before .before .before .passes .open-weights) (c .before .before .before .before .before .loop .i) (c .before .before .before .before .before .before .before .before .passes .all)
+    _ _ (c .before .portion .result) _
+    (c .before .before .before .before .loop-test .taken) (c .before .before .before .before .before .before .before .before .passes .inv .1 (omega arith))
+    (given-later _ _ _ _ _ _ (c .before .before .before .before .before .loop .inv .0)) refl (noted-later _ _ _ _ _ _ (c .before .before .before .before .before .loop .inv .1))
+    (c .before .portion .ensures) (c .smaller .ensures)
 
 mul-grants : tie.Need-mul-grants Inv-loop μ-loop Inv-passes μ-passes
 mul-grants c = search needs
 
 slice-read-grants : tie.Need-slice-read-grants Inv-loop μ-loop Inv-passes μ-passes
-slice-read-grants c = search needs
+slice-read-grants c = omega (arith, c .before .before .before .before .before .before .loop .inv .0 .size, c .before .before .before .before .before .before .before .before .before .passes .inv .0 .running .size)
 
 add-grants : tie.Need-add-grants Inv-loop μ-loop Inv-passes μ-passes
 add-grants c =
     omega (
       arith,
-      c .slice-known3 .given (c .before .before .before .before .before .before .before .loop .i),
-      c .before .before .before .before .shared-slice-known4 .given (c .before .before .before .before .before .before .before .loop .i),
-      c .before .before .excess .ensures,
-      c .before .part-by-weight .ensures,
+      c .slice-known3 .given (c .before .before .before .before .before .before .loop .i),
+      c .before .before .before .before .shared-slice-known3 .given (c .before .before .before .before .before .before .loop .i),
+      c .before .smaller .ensures,
     )
 
 slice-write-grants : tie.Need-slice-write-grants Inv-loop μ-loop Inv-passes μ-passes
-slice-write-grants c = search needs
+slice-write-grants c = omega (arith, c .before .before .before .before .before .before .loop .inv .0 .size, c .before .before .before .before .before .before .before .before .before .passes .inv .0 .running .size)
 
 add-given : tie.Need-add-given Inv-loop μ-loop Inv-passes μ-passes
 add-given c =
-    let p = c .before .before .before .before .before .before .before .before .before .before .before .passes .inv .running in
     omega (
       arith,
-      given-most _ _ _ _ _ _ _ (c .before .before .before .before .before .before .before .loop .inv) (c .before .before .before .before .before .before .loop-test .taken) (part (c .before)),
-      byWeight-within (now (c .before .before .before .before .before .before .before .before .before .before .before .before .before .before .before .args .claims)) (now (c .before .before .before .before .before .before .before .before .before .before .before .before .before .before .before .args .weights)) (c .before .before .before .before .before .before .before .before .before .before .before .passes .left) (c .before .before .before .before .before .before .before .before .before .before .before .passes .grants),
-      p .counted,
+      given-most _ _ _ _ _ _ _ (c .before .before .before .before .before .before .loop .inv .0) (c .before .before .before .before .before .loop-test .taken) (part (c .before)),
+      byWeight-within (now (c .before .before .before .before .before .before .before .before .before .before .before .before .before .before .before .args .claims)) (now (c .before .before .before .before .before .before .before .before .before .before .before .before .before .before .before .args .weights)) (c .before .before .before .before .before .before .before .before .before .passes .left) (c .before .before .before .before .before .before .before .before .before .passes .grants),
+      c .before .before .before .before .before .before .before .before .before .passes .inv .0 .running .counted,
       c .before .before .before .before .before .before .before .before .before .before .before .before .before .before .before .pre .pooled,
+    )
+
+mul-weight-after : tie.Need-mul-weight-after Inv-loop μ-loop Inv-passes μ-passes
+mul-weight-after c = search needs
+
+array-read-weight-after : tie.Need-array-read-weight-after Inv-loop μ-loop Inv-passes μ-passes
+array-read-weight-after c = omega (arith, c .before .before .before .before .before .before .before .before .before .before .before .before .before .before .before .pre .sized .few)
+
+weight-after-requires : tie.Need-weight-after-requires Inv-loop μ-loop Inv-passes μ-passes
+weight-after-requires c κs = search needs
+
+-- what the holder then brings into W is the definition's
+after : (c : tie.After-weight-after Inv-loop μ-loop Inv-passes μ-passes) →
+    c .weight-after .result
+    ≡ openWeight (now (c .before .before .before .before .before .before .before .before .before .before .before .before .before .before .before .before .args .claims)) (now (c .before .before .before .before .before .before .before .before .before .before .before .before .before .before .before .before .args .weights)) (weighted (now (c .before .before .before .before .before .before .before .before .before .before .before .before .before .before .before .before .args .claims)) (now (c .before .before .before .before .before .before .before .before .before .before .before .before .before .before .before .before .args .weights)) (c .before .before .before .before .before .before .before .before .before .before .passes .left) (c .before .before .before .before .before .before .before .before .before .before .passes .grants)) (c .before .before .before .before .before .before .before .loop .i)
+after c =
+    after-is (now (c .before .before .before .before .before .before .before .before .before .before .before .before .before .before .before .before .args .claims)) (now (c .before .before .before .before .before .before .before .before .before .before .before .before .before .before .before .before .args .weights)) (c .before .before .before .before .before .before .before .before .before .before .passes .left) (c .before .before .before .before .before .before .before .before .before .before .passes .grants) (c .before .before .before .before .before .before .before .loop .grants) (c .before .before .before .before .before .before .before .before .before .before .passes .open-weights) (c .before .before .before .before .before .before .before .loop .i) (c .before .before .before .before .before .before .before .before .before .before .passes .all)
+    _ _ (c .before .before .before .portion .result) _ _
+    (c .before .before .before .before .before .before .loop-test .taken) (c .before .before .before .before .before .before .before .before .before .before .passes .inv .1 (omega arith))
+    (given-later _ _ _ _ _ _ (c .before .before .before .before .before .before .before .loop .inv .0)) refl (noted-later _ _ _ _ _ _ (c .before .before .before .before .before .before .before .loop .inv .1))
+    (c .before .before .before .portion .ensures) (c .before .before .smaller .ensures) (c .weight-after .ensures)
+
+mul-open-weights : tie.Need-mul-open-weights Inv-loop μ-loop Inv-passes μ-passes
+mul-open-weights c = search needs
+
+array-write-open-weights : tie.Need-array-write-open-weights Inv-loop μ-loop Inv-passes μ-passes
+array-write-open-weights c = omega (arith, c .before .before .before .before .before .before .before .before .before .before .before .before .before .before .before .before .pre .sized .few)
+
+add-still-open : tie.Need-add-still-open Inv-loop μ-loop Inv-passes μ-passes
+add-still-open c =
+    let a = c .before .before .before .before .before .before .before .before .before .before .before .before .before .before .before .before .args in
+    let p = c .before .before .before .before .before .before .before .before .before .before .before .before .before .before .before .before .pre in
+    omega (
+      arith,
+      p .sized .few,
+      noted-most _ _ _ 100000000 _ _ (c .before .before .before .before .before .before .before .loop .i) _
+          (λ j l. openWeight-most (now (a .claims)) (now (a .weights)) 100000000 (weighted (now (a .claims)) (now (a .weights)) (c .before .before .before .before .before .before .before .before .before .before .passes .left) (c .before .before .before .before .before .before .before .before .before .before .passes .grants)) j (p .weighted j l))
+          (c .before .before .before .before .before .before .before .loop .inv .1) (c .before .before .before .before .before .before .loop-test .taken) (after (c)),
     )
 
 add-i : tie.Need-add-i Inv-loop μ-loop Inv-passes μ-passes
@@ -113,49 +166,70 @@ loop-less : tie.Need-loop-less Inv-loop μ-loop Inv-passes μ-passes
 loop-less c = search needs
 
 loop-again : tie.Need-loop-again Inv-loop μ-loop Inv-passes μ-passes
-loop-again c = given-next _ _ _ _ _ _ _ (c .before .before .before .before .before .before .before .loop .inv) (c .before .before .before .before .before .before .loop-test .taken) (part (c .before))
+loop-again c = (
+  given-next _ _ _ _ _ _ _ (c .before .before .before .before .before .before .before .loop .inv .0) (c .before .before .before .before .before .before .loop-test .taken) (part (c .before .before)),
+  noted-next _ _ _ _ _ (c .before .before .before .before .before .before .before .loop .i) _ (c .before .before .before .before .before .before .before .loop .inv .1) (c .before .before .before .before .before .before .loop-test .taken) (after (c)),
+)
+
+-- the parts by weight are given, and the weights that are left noted
+raised : (c : tie.After-loop Inv-loop μ-loop Inv-passes μ-passes) →
+    Raised (c .before .loop .given) (c .before .loop .grants) (length (now (c .before .before .before .before .before .before .before .before .before .before .args .claims))) (c .before .before .before .before .passes .grants)
+    (byWeight (now (c .before .before .before .before .before .before .before .before .before .before .args .claims)) (now (c .before .before .before .before .before .before .before .before .before .before .args .weights)) (c .before .before .before .before .passes .left) (c .before .before .before .before .passes .grants))
+raised c = given-all _ _ _ _ _ _ (c .before .before .before .before .passes .inv .0 .running .size) (c .before .loop .inv .0) (c .loop-test .left)
+
+ended : (c : tie.After-loop Inv-loop μ-loop Inv-passes μ-passes) →
+    Weighed (c .before .loop .still-open) (now (c .before .before .before .before .before .before .before .before .before .before .args .claims)) (now (c .before .before .before .before .before .before .before .before .before .before .args .weights)) (c .before .loop .grants) (c .before .loop .open-weights)
+ended c =
+    rw (raised c .grants)
+    (noted-weights _ _ _ _ _ _ _ (c .before .before .before .before .before .before .before .before .before .before .pre .sized .few) (c .before .before .before .before .passes .inv .1 (omega arith) .room) (c .before .loop .inv .1) (c .loop-test .left))
 
 complete-requires : tie.Need-complete-requires Inv-loop μ-loop Inv-passes μ-passes
-complete-requires c κs = search needs
+complete-requires c κs =
+    serving (now (c .before .before .before .before .before .before .before .before .before .before .before .before .args .claims)) (now (c .before .before .before .before .before .before .before .before .before .before .before .before .args .weights)) _ _ _ (c .before .before .before .before .before .before .before .before .before .before .before .before .pre .sized .few)
+    (c .before .before .before .loop .inv .0 .size ∙ c .before .before .before .before .before .before .passes .inv .0 .running .size) (ended (c .before .before))
 
 -- the turn is a pass
 pass : (c : tie.After-complete Inv-loop μ-loop Inv-passes μ-passes) →
-    Passed (now (c .before .before .before .before .before .before .before .before .before .before .before .args .claims)) (now (c .before .before .before .before .before .before .before .before .before .before .before .args .weights)) (c .before .before .before .before .before .before .before .passes .left) (c .before .before .before .before .before .before .before .passes .grants)
+    Passed (now (c .before .before .before .before .before .before .before .before .before .before .before .before .before .args .claims)) (now (c .before .before .before .before .before .before .before .before .before .before .before .before .before .args .weights)) (c .before .before .before .before .before .before .before .passes .left) (c .before .before .before .before .before .before .before .passes .grants)
     (c .complete .result) (c .complete .last .1 .1 .1 .1 .1 .0)
 pass c =
-    completed-pass (now (c .before .before .before .before .before .before .before .before .before .before .before .args .claims)) (now (c .before .before .before .before .before .before .before .before .before .before .before .args .weights)) (c .before .before .before .before .before .before .before .passes .left) (c .before .before .before .before .before .before .before .passes .grants) _ _ _ _ _
-    (c .before .before .before .before .before .before .before .passes .inv .running .size)
-    (c .before .before .before .before .open-weights .ensures)
-    (given-all _ _ _ _ _ _ (c .before .before .before .before .before .before .before .passes .inv .running .size) (c .before .before .before .loop .inv) (c .before .before .loop-test .left))
+    completed-pass (now (c .before .before .before .before .before .before .before .before .before .before .before .before .before .args .claims)) (now (c .before .before .before .before .before .before .before .before .before .before .before .before .before .args .weights)) (c .before .before .before .before .before .before .before .passes .left) (c .before .before .before .before .before .before .before .passes .grants) _ _ _ _ (c .before .before .before .before .before .before .before .passes .all) (c .before .before .before .before .loop .still-open) _
+    (c .before .before .before .before .before .before .before .passes .inv .0 .running .size)
+    (c .before .before .before .before .before .before .before .passes .inv .1 (omega arith) .total)
+    (raised (c .before .before .before)) (ended (c .before .before .before))
     (c .complete .ensures)
 
 sub-left : tie.Need-sub-left Inv-loop μ-loop Inv-passes μ-passes
 sub-left c =
     omega (
       arith,
-      passed-within (c .before .before .before .before .before .before .before .before .before .before .before .before .before .args .pool) (now (c .before .before .before .before .before .before .before .before .before .before .before .before .before .args .claims)) (now (c .before .before .before .before .before .before .before .before .before .before .before .before .before .args .weights)) (c .before .before .before .before .before .before .before .before .before .passes .grants) _ (c .before .before .before .before .before .before .before .before .before .passes .left) (c .before .before .complete .result) (pass (c .before .before)),
+      passed-within (c .before .before .before .before .before .before .before .before .before .before .before .before .before .before .before .args .pool) (now (c .before .before .before .before .before .before .before .before .before .before .before .before .before .before .before .args .claims)) (now (c .before .before .before .before .before .before .before .before .before .before .before .before .before .before .before .args .weights)) (c .before .before .before .before .before .before .before .before .before .passes .grants) _ (c .before .before .before .before .before .before .before .before .before .passes .left) (c .before .before .complete .result) (pass (c .before .before)),
     )
 
 add-made : tie.Need-add-made Inv-loop μ-loop Inv-passes μ-passes
-add-made c = search needs
+add-made c = omega (arith, c .before .before .before .before .before .before .before .before .before .passes .inv .0 .running .counted, c .before .before .before .before .before .before .before .before .before .before .before .before .before .before .before .pre .pooled)
 
 passes-less : tie.Need-passes-less Inv-loop μ-loop Inv-passes μ-passes
 passes-less c =
     omega (
       arith,
-      passed-some (c .before .before .before .before .before .before .before .before .before .before .before .before .before .args .pool) (now (c .before .before .before .before .before .before .before .before .before .before .before .before .before .args .claims)) (now (c .before .before .before .before .before .before .before .before .before .before .before .before .before .args .weights)) (c .before .before .before .before .before .before .before .before .before .passes .grants) _ (c .before .before .before .before .before .before .before .before .before .passes .left) (c .before .before .before .before .before .before .before .before .before .passes .made) (c .before .before .complete .result)
-          (c .before .before .before .before .before .before .before .before .before .passes .inv) (omega arith) (pass (c .before .before)),
+      passed-some (c .before .before .before .before .before .before .before .before .before .before .before .before .before .before .before .args .pool) (now (c .before .before .before .before .before .before .before .before .before .before .before .before .before .before .before .args .claims)) (now (c .before .before .before .before .before .before .before .before .before .before .before .before .before .before .before .args .weights)) (c .before .before .before .before .before .before .before .before .before .passes .grants) _ (c .before .before .before .before .before .before .before .before .before .passes .left) (c .before .before .before .before .before .before .before .before .before .passes .made) (c .before .before .complete .result)
+          (c .before .before .before .before .before .before .before .before .before .passes .inv .0) (omega arith) (pass (c .before .before)),
     )
 
 passes-again : tie.Need-passes-again Inv-loop μ-loop Inv-passes μ-passes
-passes-again c =
-    passing-next (c .before .before .before .before .before .before .before .before .before .before .before .before .before .args .pool) (now (c .before .before .before .before .before .before .before .before .before .before .before .before .before .args .claims)) (now (c .before .before .before .before .before .before .before .before .before .before .before .before .before .args .weights)) _ _ _ _ _ (c .before .before .before .before .before .before .before .before .before .passes .inv) (omega arith) (pass (c .before .before))
+passes-again c = (
+  passing-next (c .before .before .before .before .before .before .before .before .before .before .before .before .before .before .before .args .pool) (now (c .before .before .before .before .before .before .before .before .before .before .before .before .before .before .before .args .claims)) (now (c .before .before .before .before .before .before .before .before .before .before .before .before .before .before .before .args .weights)) _ _ _ _ _ (c .before .before .before .before .before .before .before .before .before .passes .inv .0) (omega arith) (pass (c .before .before)),
+  λ rest.
+      weighed-next (now (c .before .before .before .before .before .before .before .before .before .before .before .before .before .before .before .args .claims)) (now (c .before .before .before .before .before .before .before .before .before .before .before .before .before .before .before .args .weights)) (c .before .before .before .before .before .before .before .before .before .passes .left) (c .before .before .before .before .before .before .before .before .before .passes .grants) (c .before .before .before .before .before .before .loop .grants) _ (c .before .before .before .before .before .before .loop .open-weights) _ (c .before .before .before .before .before .before .before .before .before .passes .all) (c .before .before .before .before .before .before .loop .still-open) (c .before .before .complete .result)
+      (c .before .before .before .before .before .before .before .before .before .passes .inv .0 .running .short) (raised (c .before .before .before .before .before)) (ended (c .before .before .before .before .before)) (c .before .before .complete .ensures) (pass (c .before .before)) rest,
+)
 
 same-length : tie.Need-same-length Inv-loop μ-loop Inv-passes μ-passes
-same-length c = search needs
+same-length c = omega (arith, c .before .passes .inv .0 .running .size, c .before .before .before .before .before .before .before .pre .sized .granted)
 
 returns : tie.Need-returns Inv-loop μ-loop Inv-passes μ-passes
-returns c = passing-last _ _ _ _ _ _ (c .before .passes .inv) (c .if1 .taken)
+returns c = passing-last _ _ _ _ _ _ (c .before .passes .inv .0) (c .if1 .taken)
 
 pub by-passes-spec : {M : Type 1} → statement M
 by-passes-spec =
@@ -165,22 +239,30 @@ by-passes-spec =
     μ-loop
     Inv-passes
     μ-passes
+    weigh-open-requires
     passes-holds
-    open-weights-requires
+    rate-of-requires
     loop-holds
-    mul-part-by-weight
-    shared-slice-read-part-by-weight
-    mul-excess
-    shared-slice-read-excess
-    mul-excess-2
-    slice-read-excess
-    excess-requires
-    part-by-weight-requires
+    mul-unmet
+    shared-slice-read-unmet
+    mul-unmet-2
+    slice-read-unmet
+    sub-unmet
+    mul-portion
+    array-read-portion
+    portion-requires
+    smaller-requires
     mul-grants
     slice-read-grants
     add-grants
     slice-write-grants
     add-given
+    mul-weight-after
+    array-read-weight-after
+    weight-after-requires
+    mul-open-weights
+    array-write-open-weights
+    add-still-open
     add-i
     loop-less
     loop-again

@@ -1,9 +1,9 @@
 -- `grant_all` meets its contract: after i turns the first i grants are the claims.
-use Prim.Native.Nat.{_+_, _-_, _≤_}
+use Prim.Native.Nat.{_-_, _≤_}
 use mathlib.Core.Path.{_≡_, refl, sym, ap, _∙_}
 use native.Mathlib.Omega.{arith}
 use borrow.Author.Needs.{needs}
-use lib.ListN.{length, set, length-set}
+use lib.ListN.{length, length-set}
 use denote.Ref.{now}
 use Rattle.base.specs.Words.{at, fill}
 use Rattle.base.proofs.WordLaws.{fill-zero, fill-turn, fill-whole, tab-at}

@@ -1,9 +1,9 @@
 -- `grant_none` meets its contract: after i turns the first i grants are 0.
-use Prim.Native.Nat.{ℕ, _+_, _-_, _≤_}
+use Prim.Native.Nat.{ℕ, _-_, _≤_}
 use mathlib.Core.Path.{_≡_, refl, sym, ap, _∙_}
 use native.Mathlib.Omega.{arith}
 use borrow.Author.Needs.{needs}
-use lib.ListN.{length, set, length-set}
+use lib.ListN.{length, length-set}
 use denote.Ref.{now}
 use Rattle.base.specs.Words.{fill}
 use Rattle.base.proofs.WordLaws.{fill-zero, fill-turn, fill-whole}

@@ -6,20 +6,27 @@ use lib.ListN.{length}
 use denote.Ref.{now}
 use Rattle.base.specs.Words.{at}
 use Rattle.share_out.specs.Fit.{wants}
-use Rattle.share_out.proofs.TurnLaws.{Served, served-none, served-later, served-next, served-all, wants-is, wants-unmet}
+use Rattle.share_out.proofs.TurnLaws.{Served, served-none, served-later, served-next, served-all, served-empty, wants-is, wants-unmet}
 use borrow.Author.Needs.{needs}
 use Rattle.share_out.proofs.serve_in_turn.Statement.{statement}
 use Rattle.share_out.proofs.serve_in_turn.Tie as tie
 
 abbrev Inv-loop : tie.InvT-loop
-Inv-loop left singly claims weights grants₀ rest₀ i₀ grants rest i =
-    Served left (wants singly claims weights grants₀) grants₀ (length claims) grants rest i
+Inv-loop left singly claims open-weights grants₀ rest₀ i₀ grants rest i =
+    Served left (wants singly claims open-weights grants₀) grants₀ (length claims) grants rest i
 
 abbrev μ-loop : tie.MeasureT-loop
-μ-loop left singly claims weights grants₀ rest₀ i₀ grants rest i = length claims - i
+μ-loop left singly claims open-weights grants₀ rest₀ i₀ grants rest i = length claims - i
 
 loop-holds : tie.Need-loop-holds Inv-loop μ-loop
 loop-holds c = served-none _ _ _ _
+
+same-length : tie.Need-same-length Inv-loop μ-loop
+same-length c = c .before .before .loop .inv .size
+
+-- the pool is empty
+returns : tie.Need-returns Inv-loop μ-loop
+returns c = served-empty _ _ _ _ _ _ _ (c .before .before .before .before .before .pre .granted) (c .before .before .loop .inv) (c .if1 .taken)
 
 mul-excess : tie.Need-mul-excess Inv-loop μ-loop
 mul-excess c = search needs
@@ -39,8 +46,8 @@ excess-requires c κs = search needs
 mul-want : tie.Need-mul-want Inv-loop μ-loop
 mul-want c = search needs
 
-shared-slice-read-want : tie.Need-shared-slice-read-want Inv-loop μ-loop
-shared-slice-read-want c = search needs
+element-copy-out-want : tie.Need-element-copy-out-want Inv-loop μ-loop
+element-copy-out-want c = search needs
 
 want-requires : tie.Need-want-requires Inv-loop μ-loop
 want-requires c κs = search needs
@@ -56,11 +63,15 @@ slice-read-grants c = search needs
 
 add-grants : tie.Need-add-grants Inv-loop μ-loop
 add-grants c =
+    let a = c .before .before .before .before .before .before .before .before .before .before .before .before .args in
+    let i = c .before .before .before .before .before .before .before .before .before .loop .i in
+    let later = served-later _ _ _ _ _ _ _ (c .before .before .before .before .before .before .before .before .before .loop .inv) in
     omega (
       arith,
-      c .slice-known3 .given (c .before .before .before .before .before .before .before .before .loop .i),
-      c .before .before .before .before .before .before .shared-slice-known3 .given (c .before .before .before .before .before .before .before .before .loop .i),
-      wants-unmet (c .before .before .before .before .before .before .before .before .before .before .before .before .args .singly) (at (now (c .before .before .before .before .before .before .before .before .before .before .before .before .args .weights)) (c .before .before .before .before .before .before .before .before .loop .i)) (c .before .before .before .before .excess .result) (c .before .before .want .result) (c .before .before .want .ensures),
+      c .slice-known3 .given i,
+      c .before .before .before .before .before .before .shared-slice-known2 .given i,
+      wants-unmet (a .singly) (at (now (a .open-weights)) i) (c .before .before .before .before .excess .result) (c .before .before .want .result)
+          (λ some. omega (arith, c .before .before .before .before .before .before .before .before .before .before .before .before .pre .unmetThere i (c .before .before .before .before .before .before .before .before .loop-test .taken) some, later, c .before .before .before .before .excess .ensures)) (c .before .before .want .ensures),
       c .before .before .before .before .excess .ensures,
       c .before .smaller .ensures,
     )
@@ -80,12 +91,12 @@ loop-less c = search needs
 loop-again : tie.Need-loop-again Inv-loop μ-loop
 loop-again c =
     let a = c .before .before .before .before .before .before .before .before .before .before .before .before .args in
-    let s = c .before .before .before .before .before .before .before .before .loop .inv in
-    let i = c .before .before .before .before .before .before .before .before .loop .i in
-    served-next _ _ _ _ _ _ i _ s (c .before .before .before .before .before .before .before .loop-test .taken)
+    let s = c .before .before .before .before .before .before .before .before .before .loop .inv in
+    let i = c .before .before .before .before .before .before .before .before .before .loop .i in
+    served-next _ _ _ _ _ _ i _ s (c .before .before .before .before .before .before .before .before .loop-test .taken)
     (c .before .smaller .ensures
-    ∙ ap (λ k. min k (c .before .before .before .before .before .before .before .before .loop .rest))
-    (wants-is (a .singly) (now (a .claims)) (now (a .weights)) (now (a .grants)) (c .before .before .before .before .before .before .before .before .loop .grants) i _ _
+    ∙ ap (λ k. min k (c .before .before .before .before .before .before .before .before .before .loop .rest))
+    (wants-is (a .singly) (now (a .claims)) (now (a .open-weights)) (now (a .grants)) (c .before .before .before .before .before .before .before .before .before .loop .grants) i _ _
     (served-later _ _ _ _ _ _ _ s)
     (c .before .before .before .before .excess .ensures)
     (c .before .before .want .ensures)))
@@ -93,12 +104,12 @@ loop-again c =
 sub-result : tie.Need-sub-result Inv-loop μ-loop
 sub-result c = search needs
 
-same-length : tie.Need-same-length Inv-loop μ-loop
-same-length c = c .before .loop .inv .size
+same-length-2 : tie.Need-same-length-2 Inv-loop μ-loop
+same-length-2 c = c .before .loop .inv .size
 
-returns : tie.Need-returns Inv-loop μ-loop
-returns c =
-    served-all _ _ _ _ _ _ _ (c .before .before .before .before .before .pre .granted) (c .before .loop .inv) (c .loop-test .left)
+returns-2 : tie.Need-returns-2 Inv-loop μ-loop
+returns-2 c =
+    served-all _ _ _ _ _ _ _ (c .before .before .before .before .pre .granted) (c .before .loop .inv) (c .loop-test .left)
 
 pub serve-in-turn-spec : {M : Type 1} → statement M
 serve-in-turn-spec =
@@ -107,13 +118,15 @@ serve-in-turn-spec =
     Inv-loop
     μ-loop
     loop-holds
+    same-length
+    returns
     mul-excess
     shared-slice-read-excess
     mul-excess-2
     slice-read-excess
     excess-requires
     mul-want
-    shared-slice-read-want
+    element-copy-out-want
     want-requires
     smaller-requires
     mul-grants
@@ -125,5 +138,5 @@ serve-in-turn-spec =
     loop-less
     loop-again
     sub-result
-    same-length
-    returns)
+    same-length-2
+    returns-2)

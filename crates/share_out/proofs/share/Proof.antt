@@ -1,8 +1,7 @@
 -- `share` meets its contract: its two answers are the definition's two cases.
-use mathlib.Core.Path.{_≡_, sym, ap, _∙_}
+use mathlib.Core.Path.{sym, ap, _∙_}
 use native.Mathlib.Omega.{arith}
 use borrow.Author.Needs.{needs}
-use lib.ListN.{length}
 use denote.Ref.{now}
 use Rattle.base.specs.Words.{tab}
 use Rattle.share_out.specs.Rule.{Shared}

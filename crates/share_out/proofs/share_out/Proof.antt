@@ -1,5 +1,5 @@
 -- `share_out` meets its contract: refused with 5, refused with 9, shared out.
-use mathlib.Core.Path.{_≡_, sym, ap, _∙_}
+use mathlib.Core.Path.{sym, ap, _∙_}
 use borrow.Author.Needs.{needs}
 use mathlib.Core.List.{_++_}
 use lib.ListN.{length, drop}

@@ -1,5 +1,5 @@
 -- `unfit_numbers` meets its contract: the pool is tested first, and each holder passed was in range.
-use Prim.Native.Nat.{_+_, _-_, _≤_}
+use Prim.Native.Nat.{_-_, _≤_}
 use mathlib.Core.Path.{_≡_, sym, _∙_}
 use mathlib.Core.Bool.{true}
 use native.Mathlib.Omega.{arith}

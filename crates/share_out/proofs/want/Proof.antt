@@ -1,7 +1,5 @@
 -- `want` meets its contract: each return is a case of the choice.
-use mathlib.Core.Path.{_≡_, sym}
-use borrow.Author.Tests.{not-true, not-false}
-use Rattle.base.proofs.ChoiceLaws.{pick-true, pick-false}
+use borrow.Author.Tests.{not-true, not-false, lt-ltb, le-ltb}
 use Rattle.share_out.proofs.want.Statement.{statement}
 use Rattle.share_out.proofs.want.Tie as tie
 
@@ -9,10 +7,10 @@ returns : tie.Need-returns
 returns c = rw (not-true (c .before .args .singly) (c .if1 .taken))
 
 returns-2 : tie.Need-returns-2
-returns-2 c = rw (not-false (c .before .before .args .singly) (c .before .if1 .left), c .if2 .taken)
+returns-2 c = rw (not-false (c .before .before .args .singly) (c .before .if1 .left), lt-ltb 0 (c .before .before .args .weight) (c .if2 .taken))
 
 returns-3 : tie.Need-returns-3
-returns-3 c = rw (not-false (c .before .before .args .singly) (c .before .if1 .left), c .if2 .left)
+returns-3 c = rw (not-false (c .before .before .args .singly) (c .before .if1 .left), le-ltb 0 (c .before .before .args .weight) (c .if2 .left))
 
 pub want-spec : {M : Type 1} → statement M
 want-spec = tie.close (tie.spec returns returns-2 returns-3)

@@ -8,7 +8,7 @@ use denote.Ref.{now}
 use borrow.Rule.Slice.PartMut.{midOf, mid-len}
 use Rattle.base.specs.Words.{at}
 use Rattle.base.proofs.WordLaws.{at-tab}
-use Rattle.sheet.specs.Tables.{existingSlot}
+use Rattle.sheets.specs.Tables.{existingSlot}
 use Rattle.opening.proofs.PartLaws.{Rows, rows-none, rows-next}
 use borrow.Author.Needs.{needs}
 use Rattle.opening.proofs.claims.existing_kw.Statement.{statement}

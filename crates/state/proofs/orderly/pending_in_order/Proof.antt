@@ -13,15 +13,12 @@ use Rattle.state.proofs.orderly.pending_in_order.Statement.{statement}
 use Rattle.state.proofs.orderly.pending_in_order.Tie as tie
 
 abbrev Inv-loop : tie.InvT-loop
-Inv-loop state interties in-order₀ holder₀ holder-end in-order holder =
+Inv-loop state in-order₀ holder₀ holder-end in-order holder =
     (holder ≤ holder-end)
     × (in-order ≡ allTo holder (λ (h : ℕ). leb (ofHolder pendingOf state h) (mostPending state h)))
 
 abbrev μ-loop : tie.MeasureT-loop
-μ-loop state interties in-order₀ holder₀ holder-end in-order holder = holder-end - holder
-
-intertie-count-requires : tie.Need-intertie-count-requires Inv-loop μ-loop
-intertie-count-requires c κs = search needs
+μ-loop state in-order₀ holder₀ holder-end in-order holder = holder-end - holder
 
 holder-count-requires : tie.Need-holder-count-requires Inv-loop μ-loop
 holder-count-requires c κs = search needs
@@ -30,14 +27,8 @@ loop-holds : tie.Need-loop-holds Inv-loop μ-loop
 unfolding allTo
 loop-holds c = search needs
 
-add-row-sum : tie.Need-add-row-sum Inv-loop μ-loop
-add-row-sum c = omega arith
-
-row-sum-requires : tie.Need-row-sum-requires Inv-loop μ-loop
-row-sum-requires c κs = search needs
-
-most-pending-requires : tie.Need-most-pending-requires Inv-loop μ-loop
-most-pending-requires c κs = search needs
+holder-pending-in-order-requires : tie.Need-holder-pending-in-order-requires Inv-loop μ-loop
+holder-pending-in-order-requires c κs = search needs
 
 add-holder : tie.Need-add-holder Inv-loop μ-loop
 add-holder c = omega arith
@@ -46,10 +37,10 @@ loop-less : tie.Need-loop-less Inv-loop μ-loop
 loop-less c = omega arith
 
 loop-again : tie.Need-loop-again Inv-loop μ-loop
-loop-again c = (omega arith, tests-turn _ _ (c .before .before .before .loop .inv .1) (cc))
+loop-again c = (omega arith, tests-turn _ _ (c .before .before .loop .inv .1) (c .holder-pending-in-order .ensures))
 
 returns : tie.Need-returns Inv-loop μ-loop
-returns c = tests-end _ _ _ (c .before .loop .inv .1) (omega arith) (omega arith) ∙ pending-is (c .before .before .before .before .before .args .state .now)
+returns c = tests-end _ _ _ (c .before .loop .inv .1) (omega arith) (omega arith) ∙ pending-is (c .before .before .before .before .args .state .now)
 
 pub pending-in-order-spec : {M : Type 1} → statement M
 pending-in-order-spec =
@@ -57,12 +48,9 @@ pending-in-order-spec =
     (tie.spec
     Inv-loop
     μ-loop
-    intertie-count-requires
     holder-count-requires
     loop-holds
-    add-row-sum
-    row-sum-requires
-    most-pending-requires
+    holder-pending-in-order-requires
     add-holder
     loop-less
     loop-again

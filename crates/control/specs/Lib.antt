@@ -1,0 +1,2 @@
+pub mod Trades
+pub mod Figures

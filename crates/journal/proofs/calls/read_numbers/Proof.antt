@@ -1,0 +1,118 @@
+-- `read_numbers` meets its contract: what is left of the words decides what is left of the numbers.
+use Prim.Native.Nat.{ℕ, _-_, _≤_}
+use mathlib.Core.List.{List}
+use mathlib.Core.Path.{_≡_, ap, _∙_}
+use native.Mathlib.Omega.{arith}
+use lib.ListN.{length, drop}
+use denote.Ref.{now}
+use Rattle.text.specs.Written.{written}
+use Rattle.journal.specs.Words.{words}
+use Rattle.journal.specs.Calls.{numbersOf}
+use Rattle.journal.proofs.WordLaws.{whole-part}
+use Rattle.journal.proofs.NumberLaws.{reading-begins, reading-stops, reading-turn, reading-ends}
+use Rattle.journal.proofs.calls.read_numbers.Statement.{statement}
+use Rattle.journal.proofs.calls.read_numbers.Tie as tie
+use Rattle.journal.proofs.calls.last_fault.Reads as last-fault-reads
+use Rattle.journal.proofs.calls.read_figure.Reads as read-figure-reads
+use Rattle.journal.proofs.words.next_word.Reads as next-word-reads
+use borrow.Author.Needs.{needs}
+
+abbrev Inv-loop : tie.InvT-loop
+Inv-loop rest wanted numbers₀ at₀ k₀ numbers at k =
+    (k ≤ wanted)
+    × (at ≤ length rest)
+    × (numbersOf wanted (words rest) .fault ≡ numbersOf (wanted - k) (words (drop at rest)) .fault)
+    × (written 0 (numbersOf wanted (words rest) .values) numbers₀ ≡ written k (numbersOf (wanted - k) (words (drop at rest)) .values) numbers)
+
+abbrev μ-loop : tie.MeasureT-loop
+μ-loop rest wanted numbers₀ at₀ k₀ numbers at k = wanted - k
+
+loop-holds : tie.Need-loop-holds Inv-loop μ-loop
+loop-holds c =
+    let a = c .before .args in
+    let b = reading-begins (now (a .rest)) (a .wanted) (now (a .numbers)) in
+    (search needs, search needs, b .0, b .1)
+
+next-word-requires : tie.Need-next-word-requires Inv-loop μ-loop
+next-word-requires c κs = search needs
+
+sub-read-figure : tie.Need-sub-read-figure Inv-loop μ-loop
+sub-read-figure c = search needs
+
+part-read-figure-start : tie.Need-part-read-figure-start Inv-loop μ-loop
+part-read-figure-start c = search needs
+
+part-read-figure-end : tie.Need-part-read-figure-end Inv-loop μ-loop
+part-read-figure-end c = search needs
+
+read-figure-requires : tie.Need-read-figure-requires Inv-loop μ-loop
+read-figure-requires c κs = search needs
+
+returns : tie.Need-returns Inv-loop μ-loop
+returns c =
+    let a = c .before .before .before .before .before .before .before .before .args in
+    let t = c .before .before .before .before .before .before .loop in
+    let w = c .before .before .before .before .next-word .ensures in
+    reading-stops (now (a .rest)) (t .at) _ _ (w .start-is) (w .end-is) (t .inv .1) (a .wanted) (t .k) (search needs) (numbersOf (a .wanted) (words (now (a .rest)))) (now (a .numbers)) (t .numbers) (t .inv .2) (t .inv .3) _ (c .before .before .read-figure .ensures) (c .if1 .taken)
+
+mul-numbers : tie.Need-mul-numbers Inv-loop μ-loop
+mul-numbers c = search needs
+
+element-write-numbers : tie.Need-element-write-numbers Inv-loop μ-loop
+element-write-numbers c = search needs
+
+add-k : tie.Need-add-k Inv-loop μ-loop
+add-k c = search needs
+
+loop-less : tie.Need-loop-less Inv-loop μ-loop
+loop-less c = search needs
+
+loop-again : tie.Need-loop-again Inv-loop μ-loop
+loop-again c =
+    let a = c .before .before .before .before .before .before .before .before .args in
+    let t = c .before .before .before .before .before .before .loop in
+    let w = c .before .before .before .before .next-word .ensures in
+    let turn = reading-turn (now (a .rest)) (t .at) _ _ (w .start-is) (w .end-is) (t .inv .1) (a .wanted) (t .k) (search needs) (numbersOf (a .wanted) (words (now (a .rest)))) (now (a .numbers)) (t .numbers) (t .inv .2) (t .inv .3) _ (c .before .before .read-figure .ensures) (c .if1 .left) in
+    (search needs, w .within, turn .0, turn .1)
+
+sub-last-fault : tie.Need-sub-last-fault Inv-loop μ-loop
+sub-last-fault c = search needs
+
+part-last-fault-start : tie.Need-part-last-fault-start Inv-loop μ-loop
+part-last-fault-start c = search needs
+
+part-last-fault-end : tie.Need-part-last-fault-end Inv-loop μ-loop
+part-last-fault-end c = search needs
+
+last-fault-requires : tie.Need-last-fault-requires Inv-loop μ-loop
+last-fault-requires c κs = search needs
+
+returns-2 : tie.Need-returns-2 Inv-loop μ-loop
+returns-2 c =
+    let a = c .before .before .before .before .before .args in
+    let t = c .before .before .before .loop in
+    reading-ends (now (a .rest)) (t .at) (a .wanted) (t .k) _ (numbersOf (a .wanted) (words (now (a .rest)))) (now (a .numbers)) (t .numbers) (omega arith) (t .inv .2) (t .inv .3) (c .last-fault .ensures ∙ ap (λ (l : List ℕ). numbersOf 0 (words l) .fault) (whole-part (now (a .rest)) (t .at)))
+
+pub read-numbers-spec : {M : Type 1} → statement M
+read-numbers-spec =
+    tie.close
+    (tie.spec
+    Inv-loop
+    μ-loop
+    loop-holds
+    next-word-requires
+    sub-read-figure
+    part-read-figure-start
+    part-read-figure-end
+    read-figure-requires
+    returns
+    mul-numbers
+    element-write-numbers
+    add-k
+    loop-less
+    loop-again
+    sub-last-fault
+    part-last-fault-start
+    part-last-fault-end
+    last-fault-requires
+    returns-2)

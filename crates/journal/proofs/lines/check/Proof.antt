@@ -1,0 +1,109 @@
+-- `check` meets its contract: the lines that are left decide the answer.
+use Prim.Native.Nat.{_+_, _-_, _≤_}
+use mathlib.Core.Path.{_≡_, refl}
+use lib.ListN.{length, drop}
+use denote.Ref.{now}
+use Rattle.journal.specs.Journals.{linesOf, answerFrom}
+use Rattle.journal.proofs.JournalLaws.{calls-few, check-stops, check-ends, check-turn}
+use Rattle.journal.proofs.lines.check.Statement.{statement}
+use Rattle.journal.proofs.lines.check.Tie as tie
+use Rattle.journal.proofs.calls.read_line.Reads as read-line-reads
+use Rattle.journal.proofs.lines.calls_in.Reads as calls-in-reads
+use Rattle.journal.proofs.lines.fault_in.Reads as fault-in-reads
+use Rattle.journal.proofs.lines.line_end.Reads as line-end-reads
+use borrow.Author.Needs.{needs}
+
+abbrev Inv-loop : tie.InvT-loop
+Inv-loop text room at₀ number₀ count₀ at number count =
+    (at ≤ length text)
+    × (number ≤ at + 1)
+    × (count ≤ at)
+    × (answerFrom room 1 0 (linesOf text) ≡ answerFrom room number count (linesOf (drop at text)))
+
+abbrev μ-loop : tie.MeasureT-loop
+μ-loop text room at₀ number₀ count₀ at number count = length text - at
+
+loop-holds : tie.Need-loop-holds Inv-loop μ-loop
+loop-holds c = (search needs, search needs, search needs, refl)
+
+line-end-requires : tie.Need-line-end-requires Inv-loop μ-loop
+line-end-requires c κs = search needs
+
+sub-read-line : tie.Need-sub-read-line Inv-loop μ-loop
+sub-read-line c = search needs
+
+part-read-line-start : tie.Need-part-read-line-start Inv-loop μ-loop
+part-read-line-start c = search needs
+
+part-read-line-end : tie.Need-part-read-line-end Inv-loop μ-loop
+part-read-line-end c = search needs
+
+read-line-requires : tie.Need-read-line-requires Inv-loop μ-loop
+read-line-requires c κs = search needs
+
+fault-in-requires : tie.Need-fault-in-requires Inv-loop μ-loop
+fault-in-requires c κs = search needs
+
+returns : tie.Need-returns Inv-loop μ-loop
+returns c =
+    let a = c .before .before .before .before .before .before .before .args in
+    let t = c .before .before .before .before .before .loop in
+    check-stops (a .room) (now (a .text)) (t .at) (t .number) (t .count) _ (t .inv .3) _ (t .inv .0) (c .before .before .before .before .line-end .ensures .0) _ (c .before .before .read-line .ensures) _ (c .before .fault-in .ensures) (c .if1 .taken)
+
+calls-in-requires : tie.Need-calls-in-requires Inv-loop μ-loop
+calls-in-requires c κs = search needs
+
+add-count : tie.Need-add-count Inv-loop μ-loop
+add-count c =
+    let few = calls-few (c .before .before .before .read-line .result) in
+    let is = c .calls-in .ensures in
+    search needs
+
+returns-2 : tie.Need-returns-2 Inv-loop μ-loop
+returns-2 c =
+    let a = c .before .before .before .before .before .before .before .before .before .args in
+    let t = c .before .before .before .before .before .before .before .loop in
+    check-ends (a .room) (now (a .text)) (t .at) (t .number) (t .count) _ (t .inv .3) _ (t .inv .0) (c .before .before .before .before .before .before .line-end .ensures .0) _ (c .before .before .before .before .read-line .ensures) _ (c .before .before .before .fault-in .ensures) (c .before .before .if1 .left) _ (c .before .calls-in .ensures) (c .if2 .taken)
+
+add-at : tie.Need-add-at Inv-loop μ-loop
+add-at c = search needs
+
+add-number : tie.Need-add-number Inv-loop μ-loop
+add-number c = search needs
+
+loop-less : tie.Need-loop-less Inv-loop μ-loop
+loop-less c = search needs
+
+loop-again : tie.Need-loop-again Inv-loop μ-loop
+loop-again c =
+    let a = c .before .before .before .before .before .before .before .before .before .args in
+    let t = c .before .before .before .before .before .before .before .loop in
+    let few = calls-few (c .before .before .before .before .read-line .result) in
+    let is = c .before .calls-in .ensures in (
+      search needs,
+      search needs,
+      search needs,
+      check-turn (a .room) (now (a .text)) (t .at) (t .number) (t .count) _ (t .inv .3) _ (t .inv .0) (c .before .before .before .before .before .before .line-end .ensures .0) _ (c .before .before .before .before .read-line .ensures) _ (c .before .before .before .fault-in .ensures) (c .before .before .if1 .left) _ (c .before .calls-in .ensures) (c .if2 .left),
+    )
+
+pub check-spec : {M : Type 1} → statement M
+check-spec =
+    tie.close
+    (tie.spec
+    Inv-loop
+    μ-loop
+    loop-holds
+    line-end-requires
+    sub-read-line
+    part-read-line-start
+    part-read-line-end
+    read-line-requires
+    fault-in-requires
+    returns
+    calls-in-requires
+    add-count
+    returns-2
+    add-at
+    add-number
+    loop-less
+    loop-again)

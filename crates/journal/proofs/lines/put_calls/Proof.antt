@@ -1,0 +1,91 @@
+-- `put_calls` meets its contract: the words of the lines that are left are still to be written.
+use Prim.Native.Nat.{_+_, _-_, _≤_}
+use mathlib.Core.Path.{_≡_, refl}
+use native.Mathlib.Omega.{arith}
+use lib.ListN.{length, drop}
+use denote.Ref.{now}
+use Rattle.text.specs.Written.{written}
+use Rattle.journal.specs.Journals.{linesOf, callWords}
+use Rattle.journal.proofs.JournalLaws.{words-fit, put-ends, put-turn}
+use Rattle.journal.proofs.lines.put_calls.Statement.{statement}
+use Rattle.journal.proofs.lines.put_calls.Tie as tie
+use Rattle.journal.proofs.calls.read_line.Reads as read-line-reads
+use Rattle.journal.proofs.lines.line_end.Reads as line-end-reads
+use Rattle.journal.proofs.lines.put_line.Reads as put-line-reads
+use borrow.Author.Needs.{needs}
+
+abbrev Inv-loop : tie.InvT-loop
+Inv-loop text calls₀ at₀ place₀ calls at place =
+    (at ≤ length text)
+    × (length calls ≡ length calls₀)
+    × (place + length (callWords (linesOf (drop at text))) ≤ length calls₀)
+    × (written 0 (callWords (linesOf text)) calls₀ ≡ written place (callWords (linesOf (drop at text))) calls)
+
+abbrev μ-loop : tie.MeasureT-loop
+μ-loop text calls₀ at₀ place₀ calls at place = length text - at
+
+loop-holds : tie.Need-loop-holds Inv-loop μ-loop
+loop-holds c = (search needs, refl, search needs, refl)
+
+line-end-requires : tie.Need-line-end-requires Inv-loop μ-loop
+line-end-requires c κs = search needs
+
+sub-read-line : tie.Need-sub-read-line Inv-loop μ-loop
+sub-read-line c = search needs
+
+part-read-line-start : tie.Need-part-read-line-start Inv-loop μ-loop
+part-read-line-start c = search needs
+
+part-read-line-end : tie.Need-part-read-line-end Inv-loop μ-loop
+part-read-line-end c = search needs
+
+read-line-requires : tie.Need-read-line-requires Inv-loop μ-loop
+read-line-requires c κs = search needs
+
+put-line-requires : tie.Need-put-line-requires Inv-loop μ-loop
+put-line-requires c κs =
+    let a = c .before .before .before .before .before .before .before .args in
+    let t = c .before .before .before .before .loop in
+    let fit = words-fit (now (a .text)) (t .at) (t .place) (callWords (linesOf (now (a .text)))) (now (a .calls)) (t .calls) (t .inv .2) (t .inv .3) _ (t .inv .0) (c .before .before .before .line-end .ensures .0) _ (c .before .read-line .ensures) in
+    omega (arith, fit, t .inv .1)
+
+same-length : tie.Need-same-length Inv-loop μ-loop
+same-length c = search needs
+
+returns : tie.Need-returns Inv-loop μ-loop
+returns c =
+    let a = c .before .before .before .before .before .before .before .before .before .before .before .args in
+    let t = c .before .before .before .before .before .before .before .before .loop in
+    put-ends (now (a .text)) (t .at) (t .place) (callWords (linesOf (now (a .text)))) (now (a .calls)) (t .calls) (t .inv .2) (t .inv .3) _ (t .inv .0) (c .before .before .before .before .before .before .before .line-end .ensures .0) _ (c .before .before .before .before .before .read-line .ensures) _ _ (c .before .before .before .put-line .ensures .0) (c .before .before .before .put-line .ensures .1) (c .if1 .taken)
+
+add-at : tie.Need-add-at Inv-loop μ-loop
+add-at c = search needs
+
+loop-less : tie.Need-loop-less Inv-loop μ-loop
+loop-less c = search needs
+
+loop-again : tie.Need-loop-again Inv-loop μ-loop
+loop-again c =
+    let a = c .before .before .before .before .before .before .before .before .before .before .before .args in
+    let t = c .before .before .before .before .before .before .before .before .loop in
+    let turn = put-turn (now (a .text)) (t .at) (t .place) (callWords (linesOf (now (a .text)))) (now (a .calls)) (t .calls) (t .inv .2) (t .inv .3) _ (t .inv .0) (c .before .before .before .before .before .before .before .line-end .ensures .0) _ (c .before .before .before .before .before .read-line .ensures) _ _ (c .before .before .before .put-line .ensures .0) (c .before .before .before .put-line .ensures .1) (c .if1 .left) in
+    (search needs, search needs, turn .0, turn .1)
+
+pub put-calls-spec : {M : Type 1} → statement M
+put-calls-spec =
+    tie.close
+    (tie.spec
+    Inv-loop
+    μ-loop
+    loop-holds
+    line-end-requires
+    sub-read-line
+    part-read-line-start
+    part-read-line-end
+    read-line-requires
+    put-line-requires
+    same-length
+    returns
+    add-at
+    loop-less
+    loop-again)

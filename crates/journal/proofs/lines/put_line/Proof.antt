@@ -1,0 +1,139 @@
+-- `put_line` meets its contract: six words are stored, or none.
+use mathlib.Core.Path.{ap}
+use native.Mathlib.Omega.{arith}
+use lib.ListN.{length-set}
+use denote.Ref.{now}
+use Rattle.journal.specs.Journals.{wordsIn}
+use Rattle.journal.proofs.JournalLaws.{length-good, call-put, none-put}
+use borrow.Author.Needs.{needs}
+use Rattle.journal.proofs.lines.put_line.Statement.{statement}
+use Rattle.journal.proofs.lines.put_line.Tie as tie
+
+enum-told : tie.Need-enum-told
+enum-told c = search needs
+
+enum-known-line : tie.Need-enum-known-line
+enum-known-line c = search needs
+
+mul-calls : tie.Need-mul-calls
+mul-calls c = search needs
+
+slice-write-calls : tie.Need-slice-write-calls
+slice-write-calls c =
+    let six = length-good (c .before .before .before .args .line) _ (c .before .line .given .1) in
+    search needs
+
+add-calls : tie.Need-add-calls
+add-calls c =
+    let six = length-good (c .before .before .before .args .line) _ (c .before .line .given .1) in
+    search needs
+
+mul-calls-2 : tie.Need-mul-calls-2
+mul-calls-2 c = search needs
+
+slice-write-calls-2 : tie.Need-slice-write-calls-2
+slice-write-calls-2 c =
+    let six = length-good (c .before .before .before .args .line) _ (c .before .line .given .1) in
+    simp length-set (omega arith)
+
+add-calls-2 : tie.Need-add-calls-2
+add-calls-2 c =
+    let six = length-good (c .before .before .before .args .line) _ (c .before .line .given .1) in
+    search needs
+
+mul-calls-3 : tie.Need-mul-calls-3
+mul-calls-3 c = search needs
+
+slice-write-calls-3 : tie.Need-slice-write-calls-3
+slice-write-calls-3 c =
+    let six = length-good (c .before .before .before .args .line) _ (c .before .line .given .1) in
+    simp length-set (omega arith)
+
+add-calls-3 : tie.Need-add-calls-3
+add-calls-3 c =
+    let six = length-good (c .before .before .before .args .line) _ (c .before .line .given .1) in
+    search needs
+
+mul-calls-4 : tie.Need-mul-calls-4
+mul-calls-4 c = search needs
+
+slice-write-calls-4 : tie.Need-slice-write-calls-4
+slice-write-calls-4 c =
+    let six = length-good (c .before .before .before .args .line) _ (c .before .line .given .1) in
+    simp length-set (omega arith)
+
+add-calls-4 : tie.Need-add-calls-4
+add-calls-4 c =
+    let six = length-good (c .before .before .before .args .line) _ (c .before .line .given .1) in
+    search needs
+
+mul-calls-5 : tie.Need-mul-calls-5
+mul-calls-5 c = search needs
+
+slice-write-calls-5 : tie.Need-slice-write-calls-5
+slice-write-calls-5 c =
+    let six = length-good (c .before .before .before .args .line) _ (c .before .line .given .1) in
+    simp length-set (omega arith)
+
+add-calls-5 : tie.Need-add-calls-5
+add-calls-5 c =
+    let six = length-good (c .before .before .before .args .line) _ (c .before .line .given .1) in
+    search needs
+
+mul-calls-6 : tie.Need-mul-calls-6
+mul-calls-6 c = search needs
+
+slice-write-calls-6 : tie.Need-slice-write-calls-6
+slice-write-calls-6 c =
+    let six = length-good (c .before .before .before .args .line) _ (c .before .line .given .1) in
+    simp length-set (omega arith)
+
+add-result : tie.Need-add-result
+add-result c =
+    let six = length-good (c .before .before .before .args .line) _ (c .before .line .given .1) in
+    search needs
+
+enum-told-2 : tie.Need-enum-told-2
+enum-told-2 c = search needs
+
+returns : tie.Need-returns
+returns c = none-put (c .before .before .args .line) (c .before .before .args .place) (now (c .before .before .args .calls)) (ap wordsIn (c .enum-told .given .1))
+
+same-length : tie.Need-same-length
+same-length c = search needs
+
+returns-2 : tie.Need-returns-2
+returns-2 c = call-put (c .before .before .before .args .line) _ (c .before .before .before .args .place) (now (c .before .before .before .args .calls)) (c .before .line .given .1)
+
+returns-3 : tie.Need-returns-3
+returns-3 c = none-put (c .before .before .args .line) (c .before .before .args .place) (now (c .before .before .args .calls)) (ap wordsIn (c .enum-told2 .given .1))
+
+pub put-line-spec : {M : Type 1} → statement M
+put-line-spec =
+    tie.close
+    (tie.spec
+    enum-told
+    enum-known-line
+    mul-calls
+    slice-write-calls
+    add-calls
+    mul-calls-2
+    slice-write-calls-2
+    add-calls-2
+    mul-calls-3
+    slice-write-calls-3
+    add-calls-3
+    mul-calls-4
+    slice-write-calls-4
+    add-calls-4
+    mul-calls-5
+    slice-write-calls-5
+    add-calls-5
+    mul-calls-6
+    slice-write-calls-6
+    add-result
+    enum-told-2
+    returns
+    same-length
+    returns-2
+    returns-3)

@@ -1,0 +1,82 @@
+-- `next_word` meets its contract: past the blanks, then past the word.
+use Prim.Native.Nat.{ℕ, _+_}
+use mathlib.Core.Path.{ap}
+use denote.Ref.{now}
+use Rattle.journal.proofs.WordLaws.{part-leading, part-within}
+use borrow.Author.Needs.{needs}
+use Rattle.journal.proofs.words.next_word.Statement.{statement}
+use Rattle.journal.proofs.words.next_word.Tie as tie
+
+sub-leading : tie.Need-sub-leading
+sub-leading c = search needs
+
+part-leading-start : tie.Need-part-leading-start
+part-leading-start c = search needs
+
+part-leading-end : tie.Need-part-leading-end
+part-leading-end c = search needs
+
+leading-requires : tie.Need-leading-requires
+leading-requires c κs = search needs
+
+add-start : tie.Need-add-start
+add-start c =
+    let a = c .before .before .before .args in
+    let first = part-within 1 (now (a .line)) (a .from) _ (c .leading .ensures) (c .before .before .before .pre) in
+    search needs
+
+sub-leading-2 : tie.Need-sub-leading-2
+sub-leading-2 c =
+    let a = c .before .before .before .args in
+    let first = part-within 1 (now (a .line)) (a .from) _ (c .leading .ensures) (c .before .before .before .pre) in
+    search needs
+
+part-leading-start-2 : tie.Need-part-leading-start-2
+part-leading-start-2 c =
+    let a = c .before .before .before .args in
+    let first = part-within 1 (now (a .line)) (a .from) _ (c .leading .ensures) (c .before .before .before .pre) in
+    search needs
+
+part-leading-end-2 : tie.Need-part-leading-end-2
+part-leading-end-2 c =
+    let a = c .before .before .before .args in
+    let first = part-within 1 (now (a .line)) (a .from) _ (c .leading .ensures) (c .before .before .before .pre) in
+    search needs
+
+leading-requires-2 : tie.Need-leading-requires-2
+leading-requires-2 c κs = search needs
+
+add-end : tie.Need-add-end
+add-end c =
+    let a = c .before .before .before .before .before .args in
+    let first = part-within 1 (now (a .line)) (a .from) _ (c .before .before .leading .ensures) (c .before .before .before .before .before .pre) in
+    let second = part-within 0 (now (a .line)) _ _ (c .leading2 .ensures) first in
+    search needs
+
+returns : tie.Need-returns
+returns c =
+    let a = c .before .before .before .before .before .args in
+    let first = part-within 1 (now (a .line)) (a .from) _ (c .before .before .leading .ensures) (c .before .before .before .before .before .pre) in
+    let second = part-within 0 (now (a .line)) _ _ (c .leading2 .ensures) first in
+    record {
+      start-is = ap (λ (n : ℕ). a .from + n) (part-leading 1 (now (a .line)) (a .from) _ (c .before .before .leading .ensures));
+      end-is = ap (λ (n : ℕ). a .from + c .before .before .leading .result + n) (part-leading 0 (now (a .line)) _ _ (c .leading2 .ensures));
+      in-order = search needs;
+      within = second;
+    }
+
+pub next-word-spec : {M : Type 1} → statement M
+next-word-spec =
+    tie.close
+    (tie.spec
+    sub-leading
+    part-leading-start
+    part-leading-end
+    leading-requires
+    add-start
+    sub-leading-2
+    part-leading-start-2
+    part-leading-end-2
+    leading-requires-2
+    add-end
+    returns)

@@ -1,0 +1,4 @@
+pub mod Words
+pub mod Workers
+pub mod Calls
+pub mod Journals

@@ -1,0 +1,90 @@
+-- `put_column` meets its contract: after so many turns the figures of so many rows are written.
+use Prim.Native.Nat.{ℕ, _+_, _-_, _≤_}
+use mathlib.Core.Path.{_≡_, refl, subst}
+use native.Mathlib.Omega.{arith}
+use lib.ListN.{length}
+use denote.Ref.{now}
+use Rattle.base.specs.Words.{at}
+use Rattle.state.specs.Layout.{place}
+use Rattle.text.specs.Lines.{blank, figure}
+use Rattle.printing.specs.Text.{columnFigures}
+use Rattle.printing.proofs.TextLaws.{length-column}
+use Rattle.printing.proofs.PutLaws.{put-none, put-turn}
+use Rattle.text.proofs.PutLaws.{Put}
+use Rattle.printing.proofs.writing.put_column.Statement.{statement}
+use Rattle.printing.proofs.writing.put_column.Tie as tie
+use borrow.Author.Needs.{needs}
+
+abbrev Inv-loop : tie.InvT-loop
+Inv-loop numbers first rows column out₀ at next₀ row₀ out next row = (row ≤ rows) × (length out ≡ length out₀) × Put at (columnFigures first row numbers column) next out₀ out
+
+abbrev μ-loop : tie.MeasureT-loop
+μ-loop numbers first rows column out₀ at next₀ row₀ out next row = rows - row
+
+loop-holds : tie.Need-loop-holds Inv-loop μ-loop
+loop-holds c = (search needs, refl, put-none _ _ _)
+
+add-put-figure : tie.Need-add-put-figure Inv-loop μ-loop
+add-put-figure c = search needs
+
+mul-put-figure : tie.Need-mul-put-figure Inv-loop μ-loop
+mul-put-figure c = search needs
+
+add-put-figure-2 : tie.Need-add-put-figure-2 Inv-loop μ-loop
+add-put-figure-2 c = search needs
+
+mul-put-figure-2 : tie.Need-mul-put-figure-2 Inv-loop μ-loop
+mul-put-figure-2 c = search needs
+
+element-copy-out-put-figure : tie.Need-element-copy-out-put-figure Inv-loop μ-loop
+element-copy-out-put-figure c = search needs
+
+put-figure-requires : tie.Need-put-figure-requires Inv-loop μ-loop
+put-figure-requires c κs =
+    let a = c .before .before .before .before .before .args in
+    let t = c .before .before .before .loop in
+    omega (arith, t .inv .1, t .inv .2 .0, length-column (a .first) (t .row) (now (a .numbers)) (a .column))
+
+add-row : tie.Need-add-row Inv-loop μ-loop
+add-row c = search needs
+
+loop-less : tie.Need-loop-less Inv-loop μ-loop
+loop-less c = search needs
+
+loop-again : tie.Need-loop-again Inv-loop μ-loop
+loop-again c =
+    let a = c .before .before .before .before .before .before .before .before .args in
+    let t = c .before .before .before .before .before .before .loop in (
+      search needs,
+      search needs,
+      put-turn (a .at) (t .row) (t .next) _ (λ r. figure blank (at (now (a .numbers)) (place (a .first + r) (a .column)))) (now (a .out)) (t .out) _ (t .inv .2) (c .before .before .put-figure .ensures),
+    )
+
+same-length : tie.Need-same-length Inv-loop μ-loop
+same-length c = search needs
+
+returns : tie.Need-returns Inv-loop μ-loop
+returns c =
+    let a = c .before .before .before .args in
+    let t = c .before .loop in
+    let end : t .row ≡ a .rows = omega arith in
+    subst (λ (n : ℕ). Put (a .at) (columnFigures (a .first) n (now (a .numbers)) (a .column)) (t .next) (now (a .out)) (t .out)) end (t .inv .2)
+
+pub put-column-spec : {M : Type 1} → statement M
+put-column-spec =
+    tie.close
+    (tie.spec
+    Inv-loop
+    μ-loop
+    loop-holds
+    add-put-figure
+    mul-put-figure
+    add-put-figure-2
+    mul-put-figure-2
+    element-copy-out-put-figure
+    put-figure-requires
+    add-row
+    loop-less
+    loop-again
+    same-length
+    returns)

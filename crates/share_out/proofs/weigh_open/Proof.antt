@@ -1,0 +1,90 @@
+-- `weigh_open` meets its contract: after i turns the first i weights are noted and summed (`LoopLaws`).
+use Prim.Native.Nat.{_-_}
+use native.Mathlib.Omega.{arith}
+use borrow.Author.Needs.{needs}
+use lib.ListN.{length}
+use denote.Ref.{now}
+use Rattle.share_out.specs.Fit.{none}
+use Rattle.share_out.specs.Pass.{openWeight}
+use Rattle.share_out.proofs.PassLaws.{openWeight-most}
+use Rattle.share_out.proofs.LoopLaws.{Noted, noted-none, noted-next, noted-most, noted-weights, first-is}
+use Rattle.share_out.proofs.weigh_open.Statement.{statement}
+use Rattle.share_out.proofs.weigh_open.Tie as tie
+
+abbrev Inv-loop : tie.InvT-loop
+Inv-loop claims weights open-weights₀ all₀ i₀ open-weights all i =
+    Noted (openWeight claims weights (none claims)) open-weights₀ (length claims) open-weights all i
+
+abbrev μ-loop : tie.MeasureT-loop
+μ-loop claims weights open-weights₀ all₀ i₀ open-weights all i = length claims - i
+
+loop-holds : tie.Need-loop-holds Inv-loop μ-loop
+loop-holds c = noted-none _ _ _
+
+mul-open-weight : tie.Need-mul-open-weight Inv-loop μ-loop
+mul-open-weight c = search needs
+
+shared-slice-read-open-weight : tie.Need-shared-slice-read-open-weight Inv-loop μ-loop
+shared-slice-read-open-weight c = search needs
+
+mul-open-weight-2 : tie.Need-mul-open-weight-2 Inv-loop μ-loop
+mul-open-weight-2 c = search needs
+
+shared-slice-read-open-weight-2 : tie.Need-shared-slice-read-open-weight-2 Inv-loop μ-loop
+shared-slice-read-open-weight-2 c = search needs
+
+open-weight-requires : tie.Need-open-weight-requires Inv-loop μ-loop
+open-weight-requires c κs = search needs
+
+mul-open-weights : tie.Need-mul-open-weights Inv-loop μ-loop
+mul-open-weights c = search needs
+
+element-write-open-weights : tie.Need-element-write-open-weights Inv-loop μ-loop
+element-write-open-weights c = search needs
+
+add-all : tie.Need-add-all Inv-loop μ-loop
+add-all c =
+    let a = c .before .before .before .before .before .before .before .args in
+    let p = c .before .before .before .before .before .before .before .pre in
+    omega (
+      arith,
+      p .few,
+      noted-most _ _ _ 100000000 _ _ (c .before .before .before .before .loop .i) _
+          (λ j l. openWeight-most (now (a .claims)) (now (a .weights)) 100000000 (none (now (a .claims))) j (p .ranged j l)) (c .before .before .before .before .loop .inv) (c .before .before .before .loop-test .taken)
+          (first-is (now (a .claims)) (now (a .weights)) (c .before .before .before .before .loop .i) _ (c .before .before .before .loop-test .taken) (c .open-weight .ensures)),
+    )
+
+add-i : tie.Need-add-i Inv-loop μ-loop
+add-i c = search needs
+
+loop-less : tie.Need-loop-less Inv-loop μ-loop
+loop-less c = search needs
+
+loop-again : tie.Need-loop-again Inv-loop μ-loop
+loop-again c =
+    let a = c .before .before .before .before .before .before .before .args in
+    noted-next _ _ _ _ _ (c .before .before .before .before .loop .i) _ (c .before .before .before .before .loop .inv) (c .before .before .before .loop-test .taken)
+    (first-is (now (a .claims)) (now (a .weights)) (c .before .before .before .before .loop .i) _ (c .before .before .before .loop-test .taken) (c .open-weight .ensures))
+
+returns : tie.Need-returns Inv-loop μ-loop
+returns c = noted-weights _ _ _ _ _ _ _ (c .before .before .before .before .pre .few) (c .before .before .before .before .pre .room) (c .before .loop .inv) (c .loop-test .left)
+
+pub weigh-open-spec : {M : Type 1} → statement M
+weigh-open-spec =
+    tie.close
+    (tie.spec
+    Inv-loop
+    μ-loop
+    loop-holds
+    mul-open-weight
+    shared-slice-read-open-weight
+    mul-open-weight-2
+    shared-slice-read-open-weight-2
+    open-weight-requires
+    mul-open-weights
+    element-write-open-weights
+    add-all
+    add-i
+    loop-less
+    loop-again
+    returns)

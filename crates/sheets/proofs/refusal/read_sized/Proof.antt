@@ -1,0 +1,109 @@
+-- `sheets::refusal::read_sized` meets its contract: what is decided from the filled tables is numbers 3 and 4 of the sheet.
+use mathlib.Core.Path.{_≡_, refl}
+use native.Mathlib.Omega.{arith}
+use borrow.Author.Needs.{needs}
+use borrow.Author.Tests.{not-true, not-false}
+use denote.Ref.{now}
+use Rattle.sheets.specs.Refusal.{rulesHold, limitsHold}
+use Rattle.sheets.proofs.RefusalLaws.{whole, sized}
+use Rattle.sheets.proofs.DecideLaws.{modest, rules-decided, limits-decided, refused-3, refused-4, stands}
+use Rattle.sheets.proofs.refusal.read_sized.Statement.{statement}
+use Rattle.sheets.proofs.refusal.read_sized.Tie as tie
+
+word-requires : tie.Need-word-requires
+word-requires c κs = omega (arith, whole _ _ (c .before .pre .0) refl)
+
+cast-intertie-count : tie.Need-cast-intertie-count
+cast-intertie-count c = search needs
+
+word-requires-2 : tie.Need-word-requires-2
+word-requires-2 c κs = omega (arith, whole _ _ (c .before .before .pre .0) refl)
+
+cast-holder-count : tie.Need-cast-holder-count
+cast-holder-count c = search needs
+
+fill-tables-requires : tie.Need-fill-tables-requires
+fill-tables-requires c κs = search needs
+
+-- before the tables were filled: the two words that were read, and the function's entry
+abbrev words : tie.After-fill-tables → tie.After-word2
+words c = c .before .before .before .before
+
+abbrev entry : tie.After-fill-tables → tie.Start
+entry c = words c .before .before .before
+
+rules-hold-requires : tie.Need-rules-hold-requires
+rules-hold-requires c κs =
+    let read = words (c .before) in
+    omega (arith, sized _ (entry (c .before) .pre .1), read .word2 .ensures, read .before .word .ensures)
+
+limits-hold-requires : tie.Need-limits-hold-requires
+limits-hold-requires c κs =
+    let filled = c .before .before .before in
+    let read = words filled in
+    let pre = entry filled .pre in
+    let sizes = sized _ (pre .1) in (
+      omega (arith, sizes, read .word2 .ensures),
+      omega (arith, sizes, read .before .word .ensures),
+      rw (filled .fill-tables .ensures .1 .summed)
+          (modest _ (whole _ _ (pre .0) refl .few) (λ i. read .before .before .shared-slice-known .given i .fits)),
+    )
+
+-- where both tests are made, and the tables before them
+abbrev filledAt : tie.After-limits-hold → tie.After-fill-tables
+filledAt c = c .before .before .before .before
+
+-- the test of number 3 is that of the rules
+rules : (c : tie.After-limits-hold) → c .before .before .rules-hold .result ≡ rulesHold (now (entry (filledAt c) .args .sheet))
+rules c =
+    let filled = filledAt c in
+    let pre = entry filled .pre in
+    let read = words filled in
+    rules-decided _ (pre .0) (pre .1) _ _ (read .word2 .ensures) (read .before .word .ensures)
+    _ _ _ (filled .fill-tables .ensures .0) (filled .fill-tables .ensures .1 .counted) (c .before .before .rules-hold .ensures)
+
+-- the test of number 4 is that of the limits
+limits : (c : tie.After-limits-hold) → c .limits-hold .result ≡ limitsHold (now (entry (filledAt c) .args .sheet))
+limits c =
+    let filled = filledAt c in
+    let pre = entry filled .pre in
+    let read = words filled in
+    limits-decided _ (pre .0) (pre .1) _ _ (read .word2 .ensures) (read .before .word .ensures)
+    _ _ (filled .fill-tables .ensures .1 .summed) (c .limits-hold .ensures)
+
+returns : tie.Need-returns
+returns c =
+    let tested = c .before in
+    let pre = entry (filledAt tested) .pre in
+    (refused-3 _ (pre .0) (pre .1) _ (rules tested) (not-true _ (c .if1 .taken)), filledAt tested .fill-tables .ensures .1)
+
+returns-2 : tie.Need-returns-2
+returns-2 c =
+    let tested = c .before .before in
+    let pre = entry (filledAt tested) .pre in (
+      refused-4 _ (pre .0) (pre .1) _ _ (rules tested) (not-false _ (c .before .if1 .left)) (limits tested) (not-true _ (c .if2 .taken)),
+      filledAt tested .fill-tables .ensures .1,
+    )
+
+returns-3 : tie.Need-returns-3
+returns-3 c =
+    let tested = c .before .before in
+    let pre = entry (filledAt tested) .pre in (
+      stands _ (pre .0) (pre .1) _ _ (rules tested) (not-false _ (c .before .if1 .left)) (limits tested) (not-false _ (c .if2 .left)),
+      filledAt tested .fill-tables .ensures .1,
+    )
+
+pub read-sized-spec : {M : Type 1} → statement M
+read-sized-spec =
+    tie.close
+    (tie.spec
+    word-requires
+    cast-intertie-count
+    word-requires-2
+    cast-holder-count
+    fill-tables-requires
+    rules-hold-requires
+    limits-hold-requires
+    returns
+    returns-2
+    returns-3)

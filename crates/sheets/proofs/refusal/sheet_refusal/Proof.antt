@@ -1,0 +1,61 @@
+-- `sheets::refusal::sheet_refusal` meets its contract: numbers 1 and 2 by their tests, 3 and 4 by a reading into cleared tables.
+use mathlib.Core.Path.{_≡_, refl, sym, _∙_}
+use mathlib.Core.Bool.{false}
+use mathlib.Core.List.{[]}
+use native.Mathlib.Omega.{arith}
+use borrow.Author.Needs.{needs}
+use denote.Ref.{now}
+use Rattle.sheets.specs.Refusal.{badLength, badSizes}
+use Rattle.sheets.proofs.RefusalLaws.{whole-by}
+use Rattle.sheets.proofs.DecideLaws.{sizes-decided, read-sheet-1, read-sheet-2}
+use Rattle.sheets.proofs.refusal.sheet_refusal.Statement.{statement}
+use Rattle.sheets.proofs.refusal.sheet_refusal.Tie as tie
+
+bad-length-requires : tie.Need-bad-length-requires
+bad-length-requires c κs = search needs
+
+returns : tie.Need-returns
+returns c = read-sheet-1 _ [] [] [] _ (c .before .bad-length .ensures) (c .if1 .taken) .answer
+
+word-requires : tie.Need-word-requires
+word-requires c κs = omega (arith, whole-by _ _ (c .before .bad-length .ensures) (c .if1 .left))
+
+word-requires-2 : tie.Need-word-requires-2
+word-requires-2 c κs = omega (arith, whole-by _ _ (c .before .before .bad-length .ensures) (c .before .if1 .left))
+
+bad-sizes-requires : tie.Need-bad-sizes-requires
+bad-sizes-requires c κs = search needs
+
+-- the test of number 2
+sizes : (c : tie.After-bad-sizes) → c .bad-sizes .result ≡ badSizes (now (c .before .before .before .before .before .before .args .sheet))
+sizes c = sizes-decided _ _ _ _ (c .before .before .word .ensures) (c .before .word2 .ensures) (c .bad-sizes .ensures)
+
+returns-2 : tie.Need-returns-2
+returns-2 c =
+    let long = c .before .before .before .before in
+    read-sheet-2 _ [] [] [] _ _ (long .before .bad-length .ensures) (long .if1 .left) (sizes (c .before)) (c .if2 .taken) .answer
+
+read-sized-requires : tie.Need-read-sized-requires
+read-sized-requires c κs =
+    let passed = c .before .before .before in
+    let long = passed .before .before .before .before in (
+      sym (long .before .bad-length .ensures) ∙ long .if1 .left,
+      sym (sizes (passed .before)) ∙ passed .if2 .left,
+      record { no-records = refl; no-kw = refl; no-interties = refl },
+    )
+
+returns-3 : tie.Need-returns-3
+returns-3 c = c .read-sized .ensures .0
+
+pub sheet-refusal-spec : {M : Type 1} → statement M
+sheet-refusal-spec =
+    tie.close
+    (tie.spec
+    bad-length-requires
+    returns
+    word-requires
+    word-requires-2
+    bad-sizes-requires
+    returns-2
+    read-sized-requires
+    returns-3)

@@ -1,0 +1,11 @@
+pub mod BytesLaws
+pub mod KindLaws
+pub mod FieldLaws
+pub mod EntryLaws
+pub mod ReadingLaws
+pub mod ConvertLaws
+pub mod RowLaws
+pub mod TableLaws
+pub mod SplitLaws
+pub mod RowReadLaws
+pub mod RoundTrip

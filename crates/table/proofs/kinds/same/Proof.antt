@@ -1,0 +1,68 @@
+-- `kinds::same` meets its contract: after i turns the first i bytes are the same.
+use Prim.Native.Nat.{_-_, _≤_}
+use mathlib.Core.Path.{_≡_, refl}
+use denote.Ref.{now}
+use lib.ListN.{length, drop}
+use Rattle.table.specs.Kinds.{same}
+use Rattle.table.proofs.KindLaws.{same-unlike, same-byte, other-byte, same-all}
+use Rattle.table.proofs.kinds.same.Statement.{statement}
+use Rattle.table.proofs.kinds.same.Tie as tie
+use borrow.Author.Needs.{needs}
+
+abbrev Inv-loop : tie.InvT-loop
+Inv-loop a b i₀ i = (i ≤ length a) × (length a ≡ length b) × (same (drop i a) (drop i b) ≡ same a b)
+
+abbrev μ-loop : tie.MeasureT-loop
+μ-loop a b i₀ i = length a - i
+
+returns : tie.Need-returns Inv-loop μ-loop
+returns c = same-unlike _ _ (c .if1 .taken)
+
+loop-holds : tie.Need-loop-holds Inv-loop μ-loop
+loop-holds c = (search needs, search needs, refl)
+
+shared-slice-read-if2 : tie.Need-shared-slice-read-if2 Inv-loop μ-loop
+shared-slice-read-if2 c = search needs
+
+shared-slice-read-if2-2 : tie.Need-shared-slice-read-if2-2 Inv-loop μ-loop
+shared-slice-read-if2-2 c = search needs
+
+returns-2 : tie.Need-returns-2 Inv-loop μ-loop
+returns-2 c =
+    let a = c .before .before .before .before .before .before .args in
+    let t = c .before .before .before .before .loop in
+    other-byte (now (a .a)) (now (a .b)) (t .i) _ (t .inv .1) (t .inv .2) (search needs) (c .if2 .taken)
+
+add-i : tie.Need-add-i Inv-loop μ-loop
+add-i c = search needs
+
+loop-less : tie.Need-loop-less Inv-loop μ-loop
+loop-less c = search needs
+
+loop-again : tie.Need-loop-again Inv-loop μ-loop
+loop-again c =
+    let a = c .before .before .before .before .before .before .args in
+    let t = c .before .before .before .before .loop in
+    (search needs, search needs, same-byte (now (a .a)) (now (a .b)) (t .i) _ (t .inv .1) (t .inv .2) (search needs) (c .if2 .left))
+
+returns-3 : tie.Need-returns-3 Inv-loop μ-loop
+returns-3 c =
+    let a = c .before .before .before .args in
+    let t = c .before .loop in
+    same-all (now (a .a)) (now (a .b)) (t .i) _ (t .inv .1) (t .inv .2) (search needs)
+
+pub same-spec : {M : Type 1} → statement M
+same-spec =
+    tie.close
+    (tie.spec
+    Inv-loop
+    μ-loop
+    returns
+    loop-holds
+    shared-slice-read-if2
+    shared-slice-read-if2-2
+    returns-2
+    add-i
+    loop-less
+    loop-again
+    returns-3)

@@ -1,0 +1,50 @@
+-- `rows::put_line` meets its contract: the line is made in a buffer, then copied.
+use Prim.Native.Nat.{ℕ}
+use mathlib.Core.Path.{ap, subst}
+use mathlib.Core.List.{List}
+use native.Mathlib.Omega.{arith}
+use lib.ListN.{length}
+use denote.Ref.{now}
+use Rattle.table.specs.Fields.{comma}
+use Rattle.table.specs.Steps.{Put}
+use Rattle.table.proofs.RowLaws.{line-part}
+use borrow.Author.Needs.{needs}
+use Rattle.table.proofs.rows.put_line.Statement.{statement}
+use Rattle.table.proofs.rows.put_line.Tie as tie
+
+line-requires : tie.Need-line-requires
+line-requires c κs = search needs
+
+array-share-prefix-buffer : tie.Need-array-share-prefix-buffer
+array-share-prefix-buffer c = search needs
+
+slice-aggregate-put-text : tie.Need-slice-aggregate-put-text
+slice-aggregate-put-text c = search needs
+
+put-text-requires : tie.Need-put-text-requires
+put-text-requires c κs =
+    let a = c .before .before .before .before .before .before .before .args in
+    let line = c .before .before .line .ensures in
+    let made = line-part (now (a .label)) comma (now (a .figures)) _ _ _ (search needs) (c .before .before .before .before .before .before .before .pre .0) (c .before .before .before .before .before .before .before .pre .1) (line .0) (line .1) in
+    omega (arith, ap length made)
+
+same-length : tie.Need-same-length
+same-length c = search needs
+
+returns : tie.Need-returns
+returns c =
+    let a = c .before .before .before .before .before .before .before .before .before .before .args in
+    let line = c .before .before .before .before .before .line .ensures in
+    let made = line-part (now (a .label)) comma (now (a .figures)) _ _ _ (search needs) (c .before .before .before .before .before .before .before .before .before .before .pre .0) (c .before .before .before .before .before .before .before .before .before .before .pre .1) (line .0) (line .1) in
+    subst (λ (t : List ℕ). Put (a .at) t (c .before .before .put-text .result) (now (a .out)) (c .before .before .put-text .last .1 .0)) made (c .before .before .put-text .ensures)
+
+pub put-line-spec : {M : Type 1} → statement M
+put-line-spec =
+    tie.close
+    (tie.spec
+    line-requires
+    array-share-prefix-buffer
+    slice-aggregate-put-text
+    put-text-requires
+    same-length
+    returns)

@@ -1,0 +1,30 @@
+-- The names of the kinds 1 to 6.
+use Prim.Native.Nat.{ℕ, zero, suc}
+use mathlib.Core.Bool.{Bool, true, false, _&&_}
+use mathlib.Core.List.{List, [], _∷_}
+use lib.Dec.{eqb}
+use Rattle.base.specs.Choice.{pick}
+use Rattle.text.specs.Ascii.{ascii}
+
+-- the name of a kind, empty for a kind that has none
+unfoldable pub nameOf : ℕ → List ℕ
+nameOf kind =
+    pick (eqb kind 1) (ascii "limit")
+    (pick (eqb kind 2) (ascii "outside")
+    (pick (eqb kind 3) (ascii "load")
+    (pick (eqb kind 4) (ascii "existing")
+    (pick (eqb kind 5) (ascii "prera")
+    (pick (eqb kind 6) (ascii "newuse")
+    [])))))
+
+-- whether two texts are the same
+unfoldable pub same : List ℕ → List ℕ → Bool
+same [] [] = true
+same [] (b ∷ m) = false
+same (a ∷ l) [] = false
+same (a ∷ l) (b ∷ m) = eqb a b && same l m
+
+-- the kind from 1 to k that a field names, 0 where it names none
+unfoldable pub named : ℕ → List ℕ → ℕ
+named zero field = 0
+named (suc k) field = elim (same field (nameOf (suc k))) [ true ↦ suc k | false ↦ named k field ]

@@ -1,0 +1,146 @@
+// Program `sheet`: comma-separated text on standard input becomes a sheet's bytes on standard
+// output; with a sheet's file name as its argument it prints the sheet's text.
+use libc::STDERR_FILENO;
+use libc::STDIN_FILENO;
+use libc::STDOUT_FILENO;
+use table::Converted;
+use table::SHEET_BYTES;
+use table::TABLE_BYTES;
+
+// The longest text that is read. With room for one byte more a longer one is told from it.
+const INPUT_BYTES: usize = 131_072;
+
+pub fn run() {
+    let words = os::arg_count();
+    if words < 2 {
+        convert_input();
+        return;
+    }
+    if words == 2 {
+        print_argument();
+        return;
+    }
+    say(b"usage: sheet < TEXT > SHEET, or sheet SHEET\n");
+}
+
+fn say(text: &[u8]) {
+    io::write_all(STDERR_FILENO, text);
+}
+
+fn convert_input() {
+    let mut input = [0u8; 131_073];
+    let count = io::read_full(STDIN_FILENO, &mut input);
+    if INPUT_BYTES < count {
+        say(b"the text has over 131,072 bytes\n");
+        return;
+    }
+    write_sheet(&input[..count]);
+}
+
+fn write_sheet(text: &[u8]) {
+    let mut sheet = [0u8; SHEET_BYTES];
+    let converted = table::to_sheet(text, &mut sheet);
+    if converted.fault != 0 {
+        say_fault(converted);
+        return;
+    }
+    let count = converted.count;
+    io::write_all(STDOUT_FILENO, &sheet[..count]);
+}
+
+// As `line 3, column 2 (holder): not a number`.
+fn say_fault(converted: Converted) {
+    let line = converted.line;
+    let column = converted.column;
+    let fault = converted.fault;
+    say(b"line ");
+    io::print_decimal(STDERR_FILENO, line as u64);
+    say(b", column ");
+    io::print_decimal(STDERR_FILENO, column as u64);
+    if line == 1 {
+        say_size(column);
+        say_reason(fault, 2 < column);
+        return;
+    }
+    say_field(column);
+    if (fault == 1) & (column == 1) {
+        say(b": not a kind\n");
+        return;
+    }
+    say_reason(fault, 6 < column);
+}
+
+// A column of the first line.
+fn say_size(column: usize) {
+    if column == 1 {
+        say(b" (interties)");
+    }
+    if column == 2 {
+        say(b" (holders)");
+    }
+}
+
+// A column of a record.
+fn say_field(column: usize) {
+    match column {
+        1 => say(b" (kind)"),
+        2 => say(b" (holder)"),
+        3 => say(b" (intertie)"),
+        4 => say(b" (rank)"),
+        5 => say(b" (years)"),
+        6 => say(b" (kw)"),
+        _ => {}
+    }
+}
+
+// What a fault means; of number 3, whether a field is past the last column.
+fn say_reason(fault: u32, past: bool) {
+    if past {
+        say(b": too many fields\n");
+        return;
+    }
+    match fault {
+        1 => say(b": not a number\n"),
+        2 => say(b": too large\n"),
+        3 => say(b": missing\n"),
+        _ => say(b": over 1,024 records\n"),
+    }
+}
+
+fn print_argument() {
+    let mut name = io::buffer();
+    let length = os::arg(1, &mut name);
+    if os::errno() != 0 {
+        os::fail(b"file name");
+        return;
+    }
+    print_file(&name[..length]);
+}
+
+fn print_file(name: &[u8]) {
+    let file = os::open_read(name);
+    if file < 0 {
+        os::fail(name);
+        return;
+    }
+    let mut sheet = [0u8; 8205];
+    let count = io::read_full(file, &mut sheet);
+    libc::close(file);
+    if SHEET_BYTES < count {
+        say(name);
+        say(b": longer than a sheet\n");
+        return;
+    }
+    print_sheet(name, &sheet[..count]);
+}
+
+fn print_sheet(name: &[u8], sheet: &[u8]) {
+    let mut text = [0u8; TABLE_BYTES];
+    let count = table::to_table(sheet, &mut text);
+    if count == 0 {
+        say(name);
+        say(b": not a sheet, refused with number 1\n");
+        return;
+    }
+    io::write_all(STDOUT_FILENO, &text[..count]);
+}

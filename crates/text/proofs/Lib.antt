@@ -1,0 +1,7 @@
+pub mod WrittenLaws
+pub mod PieceLaws
+pub mod DecimalLaws
+pub mod ReadLaws
+pub mod LineLaws
+pub mod PutLaws
+pub mod Examples

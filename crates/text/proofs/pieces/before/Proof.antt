@@ -1,0 +1,58 @@
+-- `before` meets its contract: no separator is among the bytes read so far.
+use Prim.Native.Nat.{_+_, _-_, _≤_}
+use mathlib.Core.Path.{_≡_}
+use native.Mathlib.Omega.{arith}
+use lib.ListN.{length, drop}
+use denote.Ref.{now}
+use Rattle.text.specs.Pieces.{before}
+use Rattle.text.proofs.PieceLaws.{before-found, before-turn, before-all}
+use Rattle.text.proofs.pieces.before.Statement.{statement}
+use Rattle.text.proofs.pieces.before.Tie as tie
+use borrow.Author.Needs.{needs}
+
+abbrev Inv-loop : tie.InvT-loop
+Inv-loop text separator i₀ i = (i ≤ length text) × (before separator text ≡ i + before separator (drop i text))
+
+abbrev μ-loop : tie.MeasureT-loop
+μ-loop text separator i₀ i = length text - i
+
+loop-holds : tie.Need-loop-holds Inv-loop μ-loop
+loop-holds c = (search needs, omega arith)
+
+shared-slice-read-if1 : tie.Need-shared-slice-read-if1 Inv-loop μ-loop
+shared-slice-read-if1 c = search needs
+
+returns : tie.Need-returns Inv-loop μ-loop
+returns c =
+    let t = c .before .before .before .loop in
+    before-found (c .before .before .before .before .args .separator) (now (c .before .before .before .before .args .text)) (t .i) (t .inv .1) (search needs) (search needs)
+
+add-i : tie.Need-add-i Inv-loop μ-loop
+add-i c = search needs
+
+loop-less : tie.Need-loop-less Inv-loop μ-loop
+loop-less c = search needs
+
+loop-again : tie.Need-loop-again Inv-loop μ-loop
+loop-again c =
+    let t = c .before .before .before .loop in
+    (search needs, before-turn (c .before .before .before .before .args .separator) (now (c .before .before .before .before .args .text)) (t .i) (t .inv .1) (search needs) (search needs))
+
+returns-2 : tie.Need-returns-2 Inv-loop μ-loop
+returns-2 c =
+    let t = c .before .loop in
+    before-all (c .before .before .args .separator) (now (c .before .before .args .text)) (t .i) (t .inv .1) (search needs)
+
+pub before-spec : {M : Type 1} → statement M
+before-spec =
+    tie.close
+    (tie.spec
+    Inv-loop
+    μ-loop
+    loop-holds
+    shared-slice-read-if1
+    returns
+    add-i
+    loop-less
+    loop-again
+    returns-2)

@@ -1,0 +1,63 @@
+-- `all_digits` meets its contract: the bytes read so far are digits.
+use Prim.Native.Nat.{_-_, _≤_}
+use mathlib.Core.Path.{_≡_, refl, sym, _∙_}
+use lib.ListN.{length, drop}
+use denote.Ref.{now}
+use borrow.Author.Tests.{not-true, not-false}
+use Rattle.text.specs.Decimal.{allDigits}
+use Rattle.text.proofs.ReadLaws.{digits-fail, digits-turn, digits-end}
+use Rattle.text.proofs.reading.all_digits.Statement.{statement}
+use Rattle.text.proofs.reading.all_digits.Tie as tie
+use Rattle.text.proofs.reading.is_digit.Reads as is-digit-reads
+use borrow.Author.Needs.{needs}
+
+abbrev Inv-loop : tie.InvT-loop
+Inv-loop text i₀ i = (i ≤ length text) × (allDigits text ≡ allDigits (drop i text))
+
+abbrev μ-loop : tie.MeasureT-loop
+μ-loop text i₀ i = length text - i
+
+loop-holds : tie.Need-loop-holds Inv-loop μ-loop
+loop-holds c = (search needs, refl)
+
+shared-slice-read-is-digit : tie.Need-shared-slice-read-is-digit Inv-loop μ-loop
+shared-slice-read-is-digit c = search needs
+
+is-digit-requires : tie.Need-is-digit-requires Inv-loop μ-loop
+is-digit-requires c κs = search needs
+
+returns : tie.Need-returns Inv-loop μ-loop
+returns c =
+    let t = c .before .before .before .before .loop in
+    digits-fail (now (c .before .before .before .before .before .before .args .text)) (t .i) (t .inv .1) (search needs) (sym (c .before .is-digit .ensures) ∙ not-true _ (c .if1 .taken))
+
+add-i : tie.Need-add-i Inv-loop μ-loop
+add-i c = search needs
+
+loop-less : tie.Need-loop-less Inv-loop μ-loop
+loop-less c = search needs
+
+loop-again : tie.Need-loop-again Inv-loop μ-loop
+loop-again c =
+    let t = c .before .before .before .before .loop in
+    (search needs, digits-turn (now (c .before .before .before .before .before .before .args .text)) (t .i) (t .inv .1) (search needs) (sym (c .before .is-digit .ensures) ∙ not-false _ (c .if1 .left)))
+
+returns-2 : tie.Need-returns-2 Inv-loop μ-loop
+returns-2 c =
+    let t = c .before .loop in
+    digits-end (now (c .before .before .before .args .text)) (t .i) (t .inv .1) (search needs)
+
+pub all-digits-spec : {M : Type 1} → statement M
+all-digits-spec =
+    tie.close
+    (tie.spec
+    Inv-loop
+    μ-loop
+    loop-holds
+    shared-slice-read-is-digit
+    is-digit-requires
+    returns
+    add-i
+    loop-less
+    loop-again
+    returns-2)

@@ -1,0 +1,77 @@
+-- `put_figures` meets its contract: after i turns the first i figures are written.
+use Prim.Native.Nat.{ℕ, _-_, _≤_}
+use mathlib.Core.Path.{_≡_, refl, subst}
+use mathlib.Core.List.{List}
+use native.Mathlib.Omega.{arith}
+use lib.ListN.{length, take}
+use lib.Seq.{take-all, length-take-le}
+use denote.Ref.{now}
+use Rattle.base.specs.Words.{at}
+use Rattle.text.specs.Lines.{figuresOf}
+use Rattle.text.proofs.LineLaws.{length-figures}
+use Rattle.text.proofs.PutLaws.{Put, figures-none, put-figures-turn}
+use Rattle.text.proofs.writing.put_figures.Statement.{statement}
+use Rattle.text.proofs.writing.put_figures.Tie as tie
+use Rattle.text.proofs.writing.put_figure.Reads as put-figure-reads
+use borrow.Author.Needs.{needs}
+
+abbrev Inv-loop : tie.InvT-loop
+Inv-loop figures separator out₀ at next₀ i₀ out next i = (i ≤ length figures) × (length out ≡ length out₀) × Put at (figuresOf separator (take i figures)) next out₀ out
+
+abbrev μ-loop : tie.MeasureT-loop
+μ-loop figures separator out₀ at next₀ i₀ out next i = length figures - i
+
+loop-holds : tie.Need-loop-holds Inv-loop μ-loop
+loop-holds c = (search needs, refl, figures-none _ _ _)
+
+mul-put-figure : tie.Need-mul-put-figure Inv-loop μ-loop
+mul-put-figure c = search needs
+
+shared-slice-read-put-figure : tie.Need-shared-slice-read-put-figure Inv-loop μ-loop
+shared-slice-read-put-figure c = search needs
+
+put-figure-requires : tie.Need-put-figure-requires Inv-loop μ-loop
+put-figure-requires c κs =
+    let a = c .before .before .before .before .before .before .args in
+    let t = c .before .before .before .loop in
+    omega (arith, t .inv .1, t .inv .2 .0, length-figures (a .separator) (take (t .i) (now (a .figures))), length-take-le (t .i) (now (a .figures)) (search needs))
+
+add-i : tie.Need-add-i Inv-loop μ-loop
+add-i c = search needs
+
+loop-less : tie.Need-loop-less Inv-loop μ-loop
+loop-less c = search needs
+
+loop-again : tie.Need-loop-again Inv-loop μ-loop
+loop-again c =
+    let a = c .before .before .before .before .before .before .before .before .before .args in
+    let t = c .before .before .before .before .before .before .loop in (
+      search needs,
+      search needs,
+      put-figures-turn (a .separator) (now (a .figures)) (t .i) (a .at) (t .next) _ (now (a .out)) (t .out) _ (search needs) (t .inv .2) (c .before .before .put-figure .ensures),
+    )
+
+same-length : tie.Need-same-length Inv-loop μ-loop
+same-length c = search needs
+
+returns : tie.Need-returns Inv-loop μ-loop
+returns c =
+    let a = c .before .before .before .before .args in
+    let t = c .before .loop in
+    subst (λ (l : List ℕ). Put (a .at) (figuresOf (a .separator) l) (t .next) (now (a .out)) (t .out)) (take-all (t .i) (now (a .figures)) (search needs)) (t .inv .2)
+
+pub put-figures-spec : {M : Type 1} → statement M
+put-figures-spec =
+    tie.close
+    (tie.spec
+    Inv-loop
+    μ-loop
+    loop-holds
+    mul-put-figure
+    shared-slice-read-put-figure
+    put-figure-requires
+    add-i
+    loop-less
+    loop-again
+    same-length
+    returns)

@@ -1,0 +1,5 @@
+pub mod Ascii
+pub mod Written
+pub mod Decimal
+pub mod Pieces
+pub mod Lines

@@ -1,0 +1,4 @@
+pub mod YearLaws
+pub mod TradeLaws
+pub mod StretchLaws
+pub mod JournalLaws

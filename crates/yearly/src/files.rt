@@ -1,0 +1,63 @@
+// Files by the names that the arguments give.
+use libc::STDERR_FILENO;
+ghost use mathlib.Core.Path.{_≡_};
+ghost use Rattle.io.specs.Counts.{Counts};
+
+// What was read: whether that is the whole, and how much it is.
+pub(super) struct Read {
+    pub whole: bool,
+    pub count: usize,
+}
+
+pub(super) fn nothing() -> Read
+    ensures { λ r. ⌜ r .count ≡ 0 ⌝ }
+{
+    Read {
+        whole: false,
+        count: 0,
+    }
+}
+
+// Reads the file that an argument names into the start of a buffer: the whole file, or as much as there
+// is room for. Where that fails, standard error says why.
+pub(super) fn read_argument(argument: usize, buffer: &mut [u8]) -> Read
+    ensures { λ r. ⌜ Counts (r .count) (now (buffer .exit)) ⌝ }
+{
+    let mut name = io::buffer();
+    let count = os::arg(argument, &mut name);
+    if os::errno() != 0 {
+        os::fail(b"a file's name");
+        return nothing();
+    }
+    read_named(&name[..count], buffer)
+}
+
+fn read_named(name: &[u8], buffer: &mut [u8]) -> Read
+    ensures { λ r. ⌜ Counts (r .count) (now (buffer .exit)) ⌝ }
+{
+    let file = os::open_read(name);
+    if file < 0 {
+        os::fail(name);
+        return nothing();
+    }
+    let count = io::read_full(file, buffer);
+    let whole = (count == buffer.len()) | at_end(file);
+    if !whole {
+        os::fail(name);
+    }
+    libc::close(file);
+    Read { whole, count }
+}
+
+// Whether a file that was read has ended. Where a read failed, it has not.
+fn at_end(file: i32) -> bool {
+    let mut more = [0u8; 1];
+    libc::read(file, &mut more) == 0
+}
+
+// Writes the name that an argument gives to standard error.
+pub(super) fn print_name(argument: usize) {
+    let mut name = io::buffer();
+    let count = os::arg(argument, &mut name);
+    io::write_all(STDERR_FILENO, &name[..count]);
+}
