@@ -27,12 +27,18 @@ pub fn measure(table: &mut Table) {
     let requesting = all(&|number| years::requesting(number));
     let requested = all(&|number| years::requested(number, false));
     let crowded = all(&|number| years::requested(number, true));
-    let open = all(&|number| years::open(number, 64));
+    let open = all(&|number| years::open(number, 64, 97));
+    let few_locked = all(&|number| years::open(number, 64, 1));
 
-    for (stage, inputs) in [(1, &trading), (2, &requested), (4, &open)] {
-        orderly(table, &format!("orderly check, stage {stage}"), inputs);
+    for (what, inputs) in [
+        ("orderly check, stage 1", &trading),
+        ("orderly check, stage 2", &requested),
+        ("orderly check, stage 4, 64 locks spread", &open),
+        ("orderly check, stage 4, 64 locks on few interties", &few_locked),
+    ] {
+        orderly(table, what, inputs);
     }
-    single_calls(table, &trading, &requesting, &open);
+    single_calls(table, &trading, &requesting, [&open[..], &few_locked[..]]);
     for (what, inputs) in [
         ("closing, 48 x 32 pending, about half contended", &requested),
         ("closing, 48 x 32 pending, all contended", &crowded),
@@ -85,7 +91,12 @@ fn next(holder: u32) -> u32 {
     (holder + 1) % MAX_HOLDERS as u32
 }
 
-fn single_calls(table: &mut Table, trading: &[Both], requesting: &[Both], open: &[Both]) {
+fn single_calls(
+    table: &mut Table,
+    trading: &[Both],
+    requesting: &[Both],
+    [open, few_locked]: [&[Both]; 2],
+) {
     calls(
         table,
         "trade",
@@ -119,7 +130,7 @@ fn single_calls(table: &mut Table, trading: &[Both], requesting: &[Both], open: 
     calls(
         table,
         "lock",
-        open,
+        few_locked,
         |words, n| zankurbe::lock(words, free(n).0, free(n).1, 1, 3),
         |year, n| year.lock(STATE_WORDS, free(n).0, free(n).1, 1, 3),
     );

@@ -109,15 +109,18 @@ pub fn requesting(number: usize) -> Both {
     Both::of(&year)
 }
 
-/// Stage 4, with kW placed on every pair, `locks` of them locked, and kW still unassigned.
-pub fn open(number: usize, locks: usize) -> Both {
+/// Stage 4, with kW placed on every pair, `locks` of them locked, and kW still unassigned. The locks
+/// are of every holder; with a step of 1 on few interties, with a larger one on most of them.
+pub fn open(number: usize, locks: usize, step: usize) -> Both {
     let (mut year, mut r) = traded(number);
     for _ in 0..3 {
         request_all(&mut year, 24, &mut r);
         close(&mut year);
     }
     let mut left = locks;
-    for pair in 0..MAX_HOLDERS * MAX_INTERTIES {
+    let pairs = MAX_HOLDERS * MAX_INTERTIES;
+    for n in 0..pairs {
+        let pair = n * step % pairs;
         let (holder, intertie) = (pair % MAX_HOLDERS, pair / MAX_HOLDERS);
         let kw = u64::from(year.placed[intertie][holder] / 16);
         let term = 1 + r.below(30) as u32;
