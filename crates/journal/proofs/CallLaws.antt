@@ -1,22 +1,21 @@
 -- A line's name and numbers as a call.
-use Prim.Native.Nat.{ℕ, suc, _+_, _-_, _≤_, _<_}
+use Prim.Native.Nat.{ℕ, _+_, _-_, _≤_}
 use mathlib.Core.Path.{_≡_, refl, sym, ap, _∙_}
-use mathlib.Core.Bool.{Bool, true, false, _&&_}
+use mathlib.Core.Bool.{Bool, true, false}
 use mathlib.Core.Logic.{_≢_}
 use mathlib.Core.List.{List, [], _∷_, _++_}
 use native.Mathlib.Decide.{decLt}
-use native.Mathlib.Numerals.{add-one}
 use native.Mathlib.Omega.{arith}
 use lib.Dec.{eqb}
-use lib.ListN.{length, drop, replicate, length-replicate, drop-of-length-le, List·getD-append, List·getD-eq-default, getD-replicate}
-use lib.Seq.{drop-cons, getD-append-add, getD-drop}
+use lib.ListN.{length, drop, replicate, length-replicate, List·getD-append, List·getD-eq-default, getD-replicate}
+use lib.Seq.{getD-append-add, getD-drop}
 use borrow.Author.Tests.{eq-eqb, ne-eqb}
 use Rattle.base.specs.Choice.{pick}
 use Rattle.base.specs.Words.{at}
 use Rattle.text.specs.Written.{written}
 use Rattle.text.proofs.WrittenLaws.{written-is}
 use Rattle.journal.specs.Words.{words}
-use Rattle.journal.specs.Calls.{same, kindOf, takes, numbersOf, callWith, callOr, callOf, lineOf}
+use Rattle.journal.specs.Calls.{kindOf, takes, numbersOf, callWith, callOr, callOf, lineOf}
 use Rattle.journal.specs.declared.calls.Call.{Call}
 use Rattle.journal.specs.declared.calls.Line.{Line}
 use Rattle.journal.specs.declared.calls.Line.the-variants.{Comment, Good, Faulty}
@@ -30,32 +29,6 @@ pub choice-left : (b condition : Bool) (r n rest : ℕ) → b ≡ condition → 
 choice-left b condition r n rest e f later = rw (← e, f) later
 
 pub ruleset choices = (choice-taken, choice-left)
-
--- texts of different lengths differ
-pub same-lengths : (a b : List ℕ) → length a ≢ length b → false ≡ same a b
-unfolding same
-same-lengths [] [] other = absurd (other refl)
-same-lengths [] (y ∷ b) other = refl
-same-lengths (x ∷ a) [] other = refl
-same-lengths (x ∷ a) (y ∷ b) other = sym (rw (← (same-lengths a b (λ e. other (ap suc e)))) (no-more (eqb x y)))
-  where
-    no-more : (t : Bool) → t && false ≡ false
-    no-more true = refl
-    no-more false = refl
-
--- the loop of `same`
-module _ (a b : List ℕ) (i : ℕ) (so-far : same a b ≡ same (drop i a) (drop i b)) where
-  pub same-fails : i < length a → i < length b → at a i ≢ at b i → false ≡ same a b
-  unfolding same
-  same-fails in-a in-b other = sym (so-far ∙ rw (drop-cons a i 0 in-a, drop-cons b i 0 in-b, ne-eqb (at a i) (at b i) other) refl)
-
-  pub same-turn : i < length a → i < length b → at a i ≡ at b i → same a b ≡ same (drop (i + 1) a) (drop (i + 1) b)
-  unfolding same
-  same-turn in-a in-b one = so-far ∙ rw (drop-cons a i 0 in-a, drop-cons b i 0 in-b, eq-eqb (at a i) (at b i) one, add-one i) refl
-
-  pub same-ends : length a ≤ i → length b ≤ i → true ≡ same a b
-  unfolding same
-  same-ends end-a end-b = sym (so-far ∙ rw (drop-of-length-le a {i = i} end-a, drop-of-length-le b {i = i} end-b) refl)
 
 -- numbers that were read into four zeros are the words of the list
 zeros-at : (n i : ℕ) → at (replicate n 0) i ≡ 0

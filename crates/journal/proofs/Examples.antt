@@ -3,12 +3,12 @@ use Prim.Native.Nat.{ℕ}
 use mathlib.Core.Path.{_≡_, refl}
 use mathlib.Core.List.{[], _∷_}
 use lib.ListN.{replicate}
-use Rattle.text.specs.Ascii.{ascii}
+use Rattle.text.specs.Ascii.{ascii, same}
 use Rattle.text.specs.Decimal.{allDigits, value, numberOf}
 use Rattle.text.specs.Pieces.{fields}
 use Rattle.text.specs.Written.{written}
 use Rattle.journal.specs.Words.{pieces, words}
-use Rattle.journal.specs.Calls.{same, kindOf, takes, numbersOf, callWith, callOr, callOf, lineOf}
+use Rattle.journal.specs.Calls.{kindOf, takes, numbersOf, callWith, callOr, callOf, lineOf}
 use Rattle.journal.specs.Journals.{answerFrom, answerOf, callWords, callsLeft}
 use Rattle.journal.specs.declared.Journal.{Journal}
 

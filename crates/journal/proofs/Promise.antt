@@ -15,11 +15,11 @@ use Rattle.base.specs.Sums.{allTo}
 use Rattle.base.specs.Words.{at}
 use Rattle.base.proofs.ChoiceLaws.{pick-by, and-both}
 use Rattle.base.proofs.SumLaws.{allTo-all}
-use Rattle.text.specs.Ascii.{ascii}
+use Rattle.text.specs.Ascii.{ascii, same}
 use Rattle.text.specs.Written.{written}
 use Rattle.text.proofs.WrittenLaws.{written-is}
 use Rattle.journal.specs.Words.{words}
-use Rattle.journal.specs.Calls.{same, kindOf, takes, Numbers, numbersOf, callWith, callOr, callOf, lineOf}
+use Rattle.journal.specs.Calls.{kindOf, takes, Numbers, numbersOf, callWith, callOr, callOf, lineOf}
 use Rattle.journal.specs.Journals.{linesOf, answerOf, wordsIn, callWords, callsLeft}
 use Rattle.journal.specs.declared.calls.Call.{Call}
 use Rattle.journal.specs.declared.calls.Line.{Line}

@@ -8,12 +8,11 @@
 -- Faults: 1 not the name of a call; 2 too few or too many numbers, or a word that is no number; 3 a number over 32 bits.
 use Prim.Native.Nat.{ℕ, zero, suc}
 use Prim.Native.Char.{code}
-use mathlib.Core.Bool.{Bool, true, false, _&&_}
 use mathlib.Core.List.{List, [], _∷_}
 use lib.Dec.{leb, eqb}
 use Rattle.base.specs.Choice.{pick}
 use Rattle.base.specs.Words.{at}
-use Rattle.text.specs.Ascii.{ascii}
+use Rattle.text.specs.Ascii.{ascii, same}
 use Rattle.text.specs.Decimal.{numberOf}
 use Rattle.text.specs.declared.Number.{Number}
 use Rattle.text.specs.declared.Number.the-variants.{Value, Over, Bad}
@@ -21,13 +20,6 @@ use Rattle.journal.specs.Words.{words}
 use Rattle.journal.specs.declared.calls.Call.{Call}
 use Rattle.journal.specs.declared.calls.Line.{Line}
 use Rattle.journal.specs.declared.calls.Line.the-variants.{Comment, Good, Faulty}
-
--- whether two texts are the same
-unfoldable pub same : List ℕ → List ℕ → Bool
-same [] [] = true
-same [] (y ∷ b) = false
-same (x ∷ a) [] = false
-same (x ∷ a) (y ∷ b) = eqb x y && same a b
 
 -- the kind of the call that a name names, 0 where it names none
 unfoldable pub kindOf : List ℕ → ℕ

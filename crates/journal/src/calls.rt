@@ -6,7 +6,7 @@ ghost use Prim.Native.Nat.{_≤_};
 ghost use Rattle.text.specs.Decimal.{numberOf};
 ghost use Rattle.text.specs.Written.{written};
 ghost use Rattle.journal.specs.Words.{words};
-ghost use Rattle.journal.specs.Calls.{same, kindOf, takes, numbersOf, callWith, callOr, lineOf};
+ghost use Rattle.journal.specs.Calls.{kindOf, takes, numbersOf, callWith, callOr, lineOf};
 ghost use Rattle.journal.specs.Workers.{figureOf};
 
 const TRADE: u32 = 1;
@@ -158,40 +158,23 @@ fn call_with(kind: u32, n: &[u32; 4]) -> Call
 fn kind_of(name: &[u8]) -> u32
     ensures { λ r. ⌜ r ≡ kindOf (now (name .entry)) ⌝ }
 {
-    if same(name, b"trade") {
+    if text::same(name, b"trade") {
         return TRADE;
     }
-    if same(name, b"request") {
+    if text::same(name, b"request") {
         return REQUEST;
     }
-    if same(name, b"close") {
+    if text::same(name, b"close") {
         return CLOSE;
     }
-    if same(name, b"take") {
+    if text::same(name, b"take") {
         return TAKE;
     }
-    if same(name, b"move") {
+    if text::same(name, b"move") {
         return MOVE;
     }
-    if same(name, b"lock") {
+    if text::same(name, b"lock") {
         return LOCK;
     }
     0
-}
-
-// Whether two texts are the same.
-fn same(a: &[u8], b: &[u8]) -> bool
-    ensures { λ r. ⌜ r ≡ same (now (a .entry)) (now (b .entry)) ⌝ }
-{
-    if a.len() != b.len() {
-        return false;
-    }
-    let mut i = 0;
-    while i < a.len() {
-        if a[i] != b[i] {
-            return false;
-        }
-        i += 1;
-    }
-    true
 }

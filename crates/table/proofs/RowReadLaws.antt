@@ -16,7 +16,8 @@ use Rattle.text.specs.declared.Number.the-variants.{Value}
 use Rattle.text.proofs.ReadLaws.{read-back}
 use Rattle.sheets.specs.Key.{kindOf, holderOf, intertieOf, rankOf, yearsOf}
 use Rattle.carrying.proofs.KeyLaws.{same-key}
-use Rattle.table.specs.Kinds.{nameOf, same, named}
+use Rattle.text.specs.Ascii.{same}
+use Rattle.table.specs.Kinds.{nameOf, named}
 use Rattle.table.specs.Fields.{comma, word, numberFault, valueOf, kindIn, flaw, fieldsFlaw, lineFlaw, sizesFlaw, recordFlaw, recordKey, recordKw, numberAt}
 use Rattle.table.specs.Lines.{bare, reached, lineRead}
 use Rattle.table.specs.Table.{labelOf}

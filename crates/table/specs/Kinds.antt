@@ -1,10 +1,10 @@
 -- The names of the kinds 1 to 6.
 use Prim.Native.Nat.{ℕ, zero, suc}
-use mathlib.Core.Bool.{Bool, true, false, _&&_}
-use mathlib.Core.List.{List, [], _∷_}
+use mathlib.Core.Bool.{true, false}
+use mathlib.Core.List.{List, []}
 use lib.Dec.{eqb}
 use Rattle.base.specs.Choice.{pick}
-use Rattle.text.specs.Ascii.{ascii}
+use Rattle.text.specs.Ascii.{ascii, same}
 
 -- the name of a kind, empty for a kind that has none
 unfoldable pub nameOf : ℕ → List ℕ
@@ -16,13 +16,6 @@ nameOf kind =
     (pick (eqb kind 5) (ascii "prera")
     (pick (eqb kind 6) (ascii "newuse")
     [])))))
-
--- whether two texts are the same
-unfoldable pub same : List ℕ → List ℕ → Bool
-same [] [] = true
-same [] (b ∷ m) = false
-same (a ∷ l) [] = false
-same (a ∷ l) (b ∷ m) = eqb a b && same l m
 
 -- the kind from 1 to k that a field names, 0 where it names none
 unfoldable pub named : ℕ → List ℕ → ℕ

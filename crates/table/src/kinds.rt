@@ -3,7 +3,8 @@ ghost use mathlib.Core.Path.{_≡_};
 ghost use Prim.Native.Nat.{_≤_};
 ghost use lib.ListN.{length, take};
 ghost use Rattle.io.specs.Counts.{Counts};
-ghost use Rattle.table.specs.Kinds.{nameOf, same, named};
+ghost use Rattle.text.specs.Ascii.{same};
+ghost use Rattle.table.specs.Kinds.{nameOf, named};
 
 // The longest name has 8 bytes.
 pub(crate) const NAME_BYTES: usize = 8;
@@ -39,29 +40,12 @@ pub(crate) fn put_name(kind: u32, out: &mut [u8; NAME_BYTES]) -> usize
     0
 }
 
-// Whether two texts are the same.
-fn same(a: &[u8], b: &[u8]) -> bool
-    ensures { λ r. ⌜ r ≡ same (now (a .entry)) (now (b .entry)) ⌝ }
-{
-    if a.len() != b.len() {
-        return false;
-    }
-    let mut i = 0;
-    while i < a.len() {
-        if a[i] != b[i] {
-            return false;
-        }
-        i += 1;
-    }
-    true
-}
-
 fn is_name(field: &[u8], kind: u32) -> bool
     ensures { λ r. ⌜ r ≡ same (now (field .entry)) (nameOf kind) ⌝ }
 {
     let mut name = [0u8; NAME_BYTES];
     let count = put_name(kind, &mut name);
-    same(field, &name[..count])
+    text::same(field, &name[..count])
 }
 
 // The kind from 1 to 6 that a field names, 0 where it names none.

@@ -1,8 +1,10 @@
 // Numbers and pieces of text in bytes.
+mod comparing;
 mod pieces;
 mod reading;
 mod writing;
 
+pub use comparing::same;
 pub use pieces::before;
 pub use reading::read_number;
 pub use writing::line;

@@ -1,6 +1,7 @@
 // Next year's sheet, written by carry to the file that the third argument names.
 use super::NEXT_SHEET;
 use super::faults;
+use sheets::words;
 use state::layout::STATE_WORDS;
 ghost use Prim.Native.Nat.{_≤_};
 ghost use lib.ListN.{length};
@@ -21,17 +22,11 @@ pub(super) fn write_next(sheet: &[u8], state: &[u32; STATE_WORDS]) {
     write_argument(&next[..count]);
 }
 
-fn wide(byte: u8) -> usize
-    ensures { λ r. ⌜ r ≤ 255 ⌝ }
+// The length of a sheet, 12 + 8·K.
+fn sheet_length(sheet: &[u8]) -> usize
+    ensures { λ r. ⌜ r ≤ 34359738380 ⌝ }
 {
-    byte as usize
-}
-
-// The length of a sheet, 12 + 8·K; K is at most 1,024.
-fn sheet_length(sheet: &[u8; NEXT_BYTES]) -> usize
-    ensures { λ r. ⌜ r ≤ 524292 ⌝ }
-{
-    12 + 8 * (wide(sheet[8]) + 256 * wide(sheet[9]))
+    12 + 8 * (words::record_count(sheet) as usize)
 }
 
 fn write_argument(sheet: &[u8]) {
@@ -47,7 +42,8 @@ fn write_argument(sheet: &[u8]) {
 }
 
 // Puts a file with these bytes in the place of the one of that name. Where this fails, a file of that
-// name stays as it was.
+// name stays as it was. The new file is first made under the name with six letters more, which the
+// system chooses in place of X.
 fn replace(name: &[u8], bytes: &[u8]) -> bool {
     let mut beside = io::buffer();
     let end = put(name, &mut beside, 0);

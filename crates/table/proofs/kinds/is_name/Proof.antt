@@ -1,7 +1,7 @@
 -- `kinds::is_name` meets its contract: the text compared with is the name.
 use mathlib.Core.Path.{ap, _∙_}
 use denote.Ref.{now}
-use Rattle.table.specs.Kinds.{same}
+use Rattle.text.specs.Ascii.{same}
 use borrow.Author.Needs.{needs}
 use Rattle.table.proofs.kinds.is_name.Statement.{statement}
 use Rattle.table.proofs.kinds.is_name.Tie as tie

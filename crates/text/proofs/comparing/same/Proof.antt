@@ -1,12 +1,12 @@
--- `kinds::same` meets its contract: after i turns the first i bytes are the same.
+-- `comparing::same` meets its contract: after i turns the first i bytes are the same.
 use Prim.Native.Nat.{_-_, _≤_}
 use mathlib.Core.Path.{_≡_, refl}
 use denote.Ref.{now}
 use lib.ListN.{length, drop}
-use Rattle.table.specs.Kinds.{same}
-use Rattle.table.proofs.KindLaws.{same-unlike, same-byte, other-byte, same-all}
-use Rattle.table.proofs.kinds.same.Statement.{statement}
-use Rattle.table.proofs.kinds.same.Tie as tie
+use Rattle.text.specs.Ascii.{same}
+use Rattle.text.proofs.SameLaws.{same-unlike, same-byte, other-byte, same-all}
+use Rattle.text.proofs.comparing.same.Statement.{statement}
+use Rattle.text.proofs.comparing.same.Tie as tie
 use borrow.Author.Needs.{needs}
 
 abbrev Inv-loop : tie.InvT-loop
