@@ -124,6 +124,14 @@ allTo-suc n p a h = and-both (allTo n p) (p n) a h
 pub allTo-more : (n : ℕ) (p : ℕ → Bool) → allTo n p ≡ true → p n ≡ true → allTo (n + 1) p ≡ true
 allTo-more n p a h = rw (add-one n) (allTo-suc n p a h)
 
+-- a further turn of a loop that tests all, and the end of such a loop
+pub all-more : (n : ℕ) (p : ℕ → Bool) (b x : Bool) → b ≡ allTo n p → x ≡ p n → b && x ≡ allTo (n + 1) p
+unfolding allTo
+all-more n p b x e f = rw (add-one, e, f) refl
+
+pub all-done : (n m : ℕ) (p : ℕ → Bool) (b : Bool) → b ≡ allTo n p → n ≤ m → m ≤ n → b ≡ allTo m p
+all-done n m p b e l g = let d : n ≡ m = omega arith in rw (← d) e
+
 -- what holds of all holds of each
 pub allTo-each : (n : ℕ) (p : ℕ → Bool) → allTo n p ≡ true → (i : ℕ) → i < n → p i ≡ true
 unfolding allTo

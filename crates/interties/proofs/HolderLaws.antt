@@ -17,7 +17,7 @@ use Rattle.base.proofs.SumLaws.{sumTo-same, sumTo-zeros, allTo-all}
 use Rattle.base.proofs.WordLaws.{length-tab, at-tab, tab-same, tab-at, fill-whole}
 use Rattle.share_out.specs.Rule.{Shared, Outcome, claimed, shared, sharedAnswer, shareOut, unfitLengths, unfitNumbers, inRange}
 use Rattle.share_out.proofs.NumberLaws.{all-fit, fit-pool}
-use Rattle.share_out.proofs.Promise.{Promise, promise}
+use Rattle.share_out.proofs.Promise.{Promise, promise, shared-fits}
 use Rattle.share_out.proofs.OutcomeLaws.{outcome-shared}
 use Rattle.interties.specs.Rule.{amongHolders}
 
@@ -142,6 +142,14 @@ module _ (H pool : ℕ) (claim weight : ℕ → ℕ) where
       (le-leb (at claims h) 20480000000 (omega (arith, at-tab H claim h l, r .claimed h l)))
       (le-leb (at weights h) 100000000 (omega (arith, at-tab H weight h l, r .weighed h l)))))))
       ∙ shared-outcome
+
+  -- and claims together within the pool are met, in no pass
+  pub among-fits : Ranged H pool claim weight → sumTo H claim ≤ pool →
+      amongHolders H pool claim weight ≡ record { answer = granted (sumTo H claim) 0; output = tab H claim }
+  among-fits r fit =
+      let all : sumTo H (at claims) ≡ sumTo H claim = sumTo-same H (at claims) claim (at-tab H claim) in
+      let within : claimed claims ≤ pool = rw (length-tab H claim, all) fit in
+      among-shared r ∙ rw (shared-fits pool claims weights within, all)
 
 -- what holds of a share-out that is made
 pub record Made (H pool : ℕ) (claim : ℕ → ℕ) (o : Outcome) : Type 0 where

@@ -1,20 +1,26 @@
 -- The code's loops: over holders, a list and a column that are filled; over interties, a share-out on each.
-use Prim.Native.Nat.{ℕ, _+_, _≤_, _<_, zero-le}
+use Prim.Native.Nat.{ℕ, _+_, _≤_, _<_, min, zero-le}
 use mathlib.Core.Path.{_≡_, refl, sym, ap, _∙_}
+use mathlib.Core.Bool.{true}
 use mathlib.Core.List.{List}
+use native.Mathlib.Nat.{min-eq-left, min-eq-right}
 use native.Mathlib.Omega.{arith}
+use lib.Dec.{leb}
 use lib.ListN.{length, take, set, length-set}
+use borrow.Author.Tests.{leb-true}
+use Rattle.base.specs.Sums.{sumTo, allTo}
 use Rattle.base.specs.Words.{at, tab, fill}
 use Rattle.base.specs.Answers.{granted}
 use Rattle.base.specs.declared.Answer.{Answer}
-use Rattle.base.proofs.SumLaws.{sumTo-zero, sumTo-more}
-use Rattle.base.proofs.WordLaws.{length-tab, fill-zero, fill-turn, fill-whole}
+use Rattle.base.proofs.SumLaws.{sumTo-zero, sumTo-more, sumTo-mono, sumTo-term, allTo-each}
+use Rattle.base.proofs.WordLaws.{length-tab, at-tab, fill-zero, fill-turn, fill-whole}
 use Rattle.share_out.specs.Rule.{Outcome, shareOut}
 use Rattle.interties.specs.Pairs.{place, atPair, column, fillColumn, fillPairs}
 use Rattle.interties.specs.Rule.{amongHolders, onIntertie, grantOn, kwOver, passesOver, shareOutEach}
 use Rattle.interties.specs.Fit.{Sized, SharedOn}
 use Rattle.interties.proofs.BaseMore.{take-tab}
-use Rattle.interties.proofs.PairLaws.{fillColumn-zero, fillColumn-more, length-fillColumn, fillPairs-zero, fillPairs-more}
+use Rattle.interties.proofs.PairLaws.{fillColumn-zero, fillColumn-more, fillColumn-same, length-fillColumn, fillPairs-zero, fillPairs-more}
+use Rattle.interties.proofs.HolderLaws.{Ranged, among-fits}
 use Rattle.interties.proofs.IntertieLaws.{kept-on, kw-most, passes-most}
 use Rattle.interties.proofs.OutcomeLaws.{each-done}
 
@@ -78,6 +84,53 @@ shared-on i H pools claims weights claimed empty output grants after r enough c 
     let out : output ≡ onIntertie H (at pools) (atPair claims) (at weights) i .output = o .1 ∙ ap (λ (r : Outcome). r .output) same in
     let m : length output ≡ H = ap (λ l. length l) out ∙ kept-on H (at pools) (atPair claims) (at weights) i .size in
     record { answer = o .0 ∙ ap (λ (r : Outcome). r .answer) same; column = a ∙ rw (m, out) }
+
+-- after h of n claims, together still within the pool
+pub record Claiming (n pool : ℕ) (f : ℕ → ℕ) (total h : ℕ) : Type 0 where
+  pub inside : h ≤ n
+  pub sum : total ≡ sumTo h f
+  pub within : total ≤ pool
+
+module _ (n pool : ℕ) (f : ℕ → ℕ) where
+  pub claiming-none : Claiming n pool f 0 0
+  claiming-none = record { inside = zero-le; sum = sym (sumTo-zero f); within = zero-le }
+
+  pub claiming-next : (total h : ℕ) → Claiming n pool f total h → h < n → f h + total ≤ pool → Claiming n pool f (total + f h) (h + 1)
+  claiming-next total h s l fit = record { inside = omega arith; sum = rw (s .sum) (sym (sumTo-more h f)); within = omega arith }
+
+  -- a claim that exceeds what is left of the pool
+  pub claiming-over : (total h : ℕ) → Claiming n pool f total h → h < n → pool < f h + total → pool + 1 ≡ min (pool + 1) (sumTo n f)
+  claiming-over total h s l more =
+      let all : pool + 1 ≤ sumTo n f = omega (arith, s .sum, sumTo-more h f, sumTo-mono (h + 1) n f (omega arith)) in
+      sym (min-eq-left all)
+
+  pub claiming-all : (total h : ℕ) → Claiming n pool f total h → n ≤ h → total ≡ min (pool + 1) (sumTo n f)
+  claiming-all total h s l =
+      let end : h ≡ n = omega (arith, s .inside) in
+      let all : total ≡ sumTo n f = s .sum ∙ ap (λ k. sumTo k f) end in
+      let low : sumTo n f ≤ pool + 1 = omega (arith, s .within) in
+      all ∙ sym (min-eq-right low)
+
+-- claims together within the pool are met whole
+pub met-on : (i H total : ℕ) (pools claims weights grants after : List ℕ) (r : Answer) → H ≤ 32 → at pools i ≤ 20000000 →
+    allTo H (λ h. leb (at weights h) 100000000) ≡ true → total ≡ min (at pools i + 1) (sumTo H (λ h. atPair claims h i)) → total ≤ at pools i →
+    after ≡ fillColumn i H (λ h. atPair claims h i) grants → r ≡ granted total 0 → SharedOn i H pools claims weights grants r after
+met-on i H total pools claims weights grants after r few small light t fit a g =
+    let all : total ≡ sumTo H (λ h. atPair claims h i) = omega arith in
+    let within : sumTo H (λ h. atPair claims h i) ≤ at pools i = omega arith in
+    let ranged : Ranged H (at pools i) (λ h. atPair claims h i) (at weights) =
+    record {
+      few = few;
+      pooled = small;
+      claimed = λ h l. omega (arith, sumTo-term H (λ h. atPair claims h i) h l);
+      weighed = λ h l. leb-true (at weights h) 100000000 (allTo-each H (λ h. leb (at weights h) 100000000) light h l);
+    } in
+    let met : onIntertie H (at pools) (atPair claims) (at weights) i ≡ record { answer = granted (sumTo H (λ h. atPair claims h i)) 0; output = column claims H i } =
+    among-fits H (at pools i) (λ h. atPair claims h i) (at weights) ranged within in
+    record {
+      answer = g ∙ rw (all, met);
+      column = a ∙ rw met (fillColumn-same i H (λ h. atPair claims h i) (at (column claims H i)) grants (λ h l. sym (at-tab H (λ h. atPair claims h i) h l)));
+    }
 
 -- after i of I interties, with k kW in p passes
 pub record Over (I H : ℕ) (pools claims weights first grants : List ℕ) (k p i : ℕ) : Type 0 where

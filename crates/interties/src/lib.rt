@@ -1,16 +1,23 @@
 // A share-out on each intertie (document 01, Steps 4a and 4b, and the closings).
 use base::Answer;
 ghost use mathlib.Core.Path.{_≡_};
-ghost use Prim.Native.Nat.{_+_};
+ghost use Prim.Native.Nat.{_+_, _≤_, min};
+ghost use lib.Dec.{leb};
 ghost use lib.ListN.{length};
+ghost use Rattle.base.specs.Sums.{sumTo, allTo};
 ghost use Rattle.base.specs.Words.{at, tab};
-ghost use Rattle.interties.specs.Pairs.{column, fillColumn};
+ghost use Rattle.interties.specs.Pairs.{atPair, column, fillColumn};
 ghost use Rattle.interties.specs.Rule.{unfitSizes, shareOutEach};
 ghost use Rattle.interties.specs.Fit.{Sized, InTable, SharedOn};
 
 const MOST_INTERTIES: usize = 48;
 
 const MOST_HOLDERS: usize = 32;
+
+// The most that a share-out takes.
+const MOST_POOL_KW: u64 = 20_000_000;
+
+const MOST_WEIGHT: u64 = 100_000_000;
 
 // A table of the pairs has a row of 48 words for each of 32 holders.
 const ROW: usize = 48;
@@ -68,8 +75,52 @@ fn scatter(words: &[u64], intertie: usize, table: &mut [u64])
     }
 }
 
-// Shares out on one intertie; claimed and output are room for what its holders claim and get.
-fn share_out_on(
+// Whether a share-out takes the weight of every holder.
+fn weights_fit(weights: &[u64], holders: usize) -> bool
+    requires { ⌜ holders ≤ length (now weights) ⌝ }
+    ensures { λ r. ⌜ r ≡ allTo holders (λ h. leb (at (now (weights .entry)) h) 100000000) ⌝ }
+{
+    let mut fit = true;
+    let mut h = 0;
+    while h < holders {
+        fit = fit & (weights[h] <= MOST_WEIGHT);
+        h += 1;
+    }
+    fit
+}
+
+// The claims on an intertie together, or one more than its pool where they exceed it.
+fn claimed_on(pool: u64, claims: &[u64], intertie: usize, holders: usize) -> u64
+    requires { ⌜ InTable intertie holders (now claims) × (pool ≤ 20000000) ⌝ }
+    ensures { λ r. ⌜ r ≡ min (pool + 1) (sumTo holders (λ h. atPair (now (claims .entry)) h intertie)) ⌝ }
+{
+    let mut total = 0;
+    let mut h = 0;
+    while h < holders {
+        let claim = claims[ROW * h + intertie];
+        if pool - total < claim {
+            return pool + 1;
+        }
+        total += claim;
+        h += 1;
+    }
+    total
+}
+
+// Grants each claim on an intertie whole.
+fn grant_claims(claims: &[u64], intertie: usize, holders: usize, grants: &mut [u64])
+    requires { ⌜ InTable intertie holders (now claims) × InTable intertie holders (now grants) ⌝ }
+    ensures { λ _. ⌜ now (grants .exit) ≡ fillColumn intertie holders (λ h. atPair (now (claims .entry)) h intertie) (now (grants .entry)) ⌝ }
+{
+    let mut h = 0;
+    while h < holders {
+        grants[ROW * h + intertie] = claims[ROW * h + intertie];
+        h += 1;
+    }
+}
+
+// Shares out on one intertie by the share-out; claimed and output are room for what its holders claim and get.
+fn share_out_gathered(
     intertie: usize,
     pools: &[u64],
     claims: &[u64],
@@ -89,6 +140,33 @@ fn share_out_on(
     answer
 }
 
+// The same. Claims that are together within the pool are met without gathering them, where weights and pool are
+// such as the share-out takes.
+fn share_out_on(
+    intertie: usize,
+    weighable: bool,
+    pools: &[u64],
+    claims: &[u64],
+    weights: &[u64],
+    claimed: &mut [u64],
+    output: &mut [u64],
+    grants: &mut [u64],
+) -> Answer
+    requires { ⌜ Sized (intertie + 1) (length (now claimed)) (now pools) (now claims) (now weights) (now grants) × (length (now output) ≡ length (now claimed))
+        × (weighable ≡ allTo (length (now claimed)) (λ h. leb (at (now weights) h) 100000000)) ⌝ }
+    ensures { λ r. ⌜ SharedOn intertie (length (now (claimed .entry))) (now (pools .entry)) (now (claims .entry)) (now (weights .entry)) (now (grants .entry)) r (now (grants .exit)) ⌝ }
+{
+    let pool = pools[intertie];
+    if weighable & (pool <= MOST_POOL_KW) {
+        let total = claimed_on(pool, claims, intertie, claimed.len());
+        if total <= pool {
+            grant_claims(claims, intertie, claimed.len(), grants);
+            return Answer::granted(total, 0);
+        }
+    }
+    share_out_gathered(intertie, pools, claims, weights, claimed, output, grants)
+}
+
 // Shares out on each intertie in turn; answers kW and passes over all.
 fn on_each(
     interties: usize,
@@ -102,11 +180,21 @@ fn on_each(
     requires { ⌜ Sized interties (length (now claimed)) (now pools) (now claims) (now weights) (now grants) × (length (now output) ≡ length (now claimed)) ⌝ }
     ensures { λ r. ⌜ (r ≡ shareOutEach interties (length (now (claimed .entry))) (now (pools .entry)) (now (claims .entry)) (now (weights .entry)) (now (grants .entry)) .answer) × (now (grants .exit) ≡ shareOutEach interties (length (now (claimed .entry))) (now (pools .entry)) (now (claims .entry)) (now (weights .entry)) (now (grants .entry)) .output) ⌝ }
 {
+    let weighable = weights_fit(weights, claimed.len());
     let mut kw = 0;
     let mut passes = 0;
     let mut i = 0;
     while i < interties {
-        let answer = share_out_on(i, pools, claims, weights, claimed, output, grants);
+        let answer = share_out_on(
+            i,
+            weighable,
+            pools,
+            claims,
+            weights,
+            claimed,
+            output,
+            grants,
+        );
         kw += answer.kw;
         passes += answer.passes;
         i += 1;

@@ -21,18 +21,6 @@ fn put(byte: u8, out: &mut [u8], at: usize) -> usize
     at + 1
 }
 
-fn put_text(text: &[u8], out: &mut [u8], at: usize) -> usize
-    requires { ⌜ at + length (now text) ≤ length (now out) ⌝ }
-    ensures { λ r. ⌜ (r ≡ at + length (now (text .entry))) × (now (out .exit) ≡ written at (now (text .entry)) (now (out .entry))) ⌝ }
-{
-    let mut i = 0;
-    while i < text.len() {
-        out[at + i] = text[i];
-        i += 1;
-    }
-    at + text.len()
-}
-
 // A blank and a number.
 fn put_figure(number: u64, out: &mut [u8], at: usize) -> usize
     requires { ⌜ at + 21 ≤ length (now out) ⌝ }
@@ -41,7 +29,7 @@ fn put_figure(number: u64, out: &mut [u8], at: usize) -> usize
     let mut digits = [0u8; 20];
     let count = io::decimal(number, &mut digits);
     let next = put(b' ', out, at);
-    put_text(&digits[..count], out, next)
+    text::put_within(&digits[..count], out, next)
 }
 
 // A letter and a number.

@@ -20,18 +20,6 @@ ghost use Rattle.table.specs.Fields.{comma};
 ghost use Rattle.table.specs.Steps.{Put};
 ghost use Rattle.table.specs.Table.{rowOf, rowsOf};
 
-fn put_text(text: &[u8], out: &mut [u8], at: usize) -> usize
-    requires { ⌜ at + length (now text) ≤ length (now out) ⌝ }
-    ensures { λ r. ⌜ Put at (now (text .entry)) r (now (out .entry)) (now (out .exit)) ⌝ }
-{
-    let mut i = 0;
-    while i < text.len() {
-        out[at + i] = text[i];
-        i += 1;
-    }
-    at + text.len()
-}
-
 // A label, and figures after commas.
 fn put_line(label: &[u8], figures: &[u64], out: &mut [u8], at: usize) -> usize
     requires { ⌜ (length (now label) ≤ 20) × (length (now figures) ≤ 8) × (at + length (lineOf (now label) comma (now figures)) ≤ length (now out)) ⌝ }
@@ -39,7 +27,7 @@ fn put_line(label: &[u8], figures: &[u64], out: &mut [u8], at: usize) -> usize
 {
     let mut buffer = [0u8; LINE_BYTES];
     let count = text::line(label, b',', figures, &mut buffer);
-    put_text(&buffer[..count], out, at)
+    text::put_within(&buffer[..count], out, at)
 }
 
 // I and H.

@@ -8,7 +8,8 @@ use lib.Seq.{length-take-le}
 use Rattle.base.specs.Words.{at}
 use Rattle.io.specs.Counts.{Counts}
 use Rattle.io.specs.Digits.{digits, Fewest}
-use Rattle.text.specs.Written.{written}
+use borrow.Author.Tests.{le-leb, lt-leb}
+use Rattle.text.specs.Written.{written, PutWithin}
 use Rattle.text.specs.Decimal.{decimal}
 use Rattle.text.specs.Lines.{lineEnd, figure, figuresOf, lineOf, boundedLine}
 use Rattle.text.proofs.WrittenLaws.{written-none, written-then, length-written}
@@ -18,6 +19,16 @@ use Rattle.text.proofs.DecimalLaws.{spelled-is}
 -- a text from a place on, and the place after it
 abbrev pub Put : ℕ → List ℕ → ℕ → List ℕ → List ℕ → Type 0
 Put place text next l m = (next ≡ place + length text) × (m ≡ written place text l)
+
+-- a text that there is room for, and one that there is none for
+pub put-fits : (place next : ℕ) (text l m : List ℕ) → place + length text ≤ length l → PutWithin place text next l m → Put place text next l m
+put-fits place next text l m fit p = rw (le-leb (place + length text) (length l) fit) at p
+
+pub fits-put : (place next : ℕ) (text l m : List ℕ) → place + length text ≤ length l → Put place text next l m → PutWithin place text next l m
+fits-put place next text l m fit p = rw (le-leb (place + length text) (length l) fit) p
+
+pub no-room : (place : ℕ) (text l : List ℕ) → length l < place + length text → PutWithin place text place l l
+no-room place text l over = rw (lt-leb (place + length text) (length l) over) (refl, refl)
 
 -- one text after another
 pub put-then : (place next after : ℕ) (t u l m n : List ℕ) → Put place t next l m → Put next u after m n → Put place (t ++ u) after l n

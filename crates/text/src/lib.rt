@@ -8,6 +8,7 @@ pub use comparing::same;
 pub use pieces::before;
 pub use reading::read_number;
 pub use writing::line;
+pub use writing::put_within;
 
 // A line has a label of at most 20 bytes, at most 8 figures of at most 20 digits, each after a
 // separator, and a line end.

@@ -5,7 +5,7 @@ ghost use Prim.Native.Nat.{_+_, _*_, _≤_, _<_};
 ghost use mathlib.Core.List.{_∷_, []};
 ghost use lib.ListN.{length};
 ghost use Rattle.io.specs.Counts.{Counts};
-ghost use Rattle.text.specs.Written.{written};
+ghost use Rattle.text.specs.Written.{written, PutWithin};
 ghost use Rattle.text.specs.Lines.{figure, figuresOf, lineOf, boundedLine};
 
 const LABEL_BYTES: usize = 20;
@@ -24,6 +24,20 @@ pub fn line(label: &[u8], separator: u8, figures: &[u64], out: &mut [u8; LINE_BY
         return 0;
     }
     put_line(label, separator, figures, out)
+}
+
+// Writes a text from a place on and answers the place after it. Where there is no room for the text it writes
+// nothing and answers the place.
+pub fn put_within(text: &[u8], out: &mut [u8], at: usize) -> usize
+    ensures { λ r. ⌜ PutWithin at (now (text .entry)) r (now (out .entry)) (now (out .exit)) ⌝ }
+{
+    if out.len() < text.len() {
+        return at;
+    }
+    if out.len() - text.len() < at {
+        return at;
+    }
+    put_text(text, out, at)
 }
 
 fn put_line(label: &[u8], separator: u8, figures: &[u64], out: &mut [u8]) -> usize

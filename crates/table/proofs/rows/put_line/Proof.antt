@@ -7,6 +7,7 @@ use lib.ListN.{length}
 use denote.Ref.{now}
 use Rattle.table.specs.Fields.{comma}
 use Rattle.table.specs.Steps.{Put}
+use Rattle.text.proofs.PutLaws.{put-fits}
 use Rattle.table.proofs.RowLaws.{line-part}
 use borrow.Author.Needs.{needs}
 use Rattle.table.proofs.rows.put_line.Statement.{statement}
@@ -18,15 +19,11 @@ line-requires c κs = search needs
 array-share-prefix-buffer : tie.Need-array-share-prefix-buffer
 array-share-prefix-buffer c = search needs
 
-slice-aggregate-put-text : tie.Need-slice-aggregate-put-text
-slice-aggregate-put-text c = search needs
+slice-aggregate-put-within : tie.Need-slice-aggregate-put-within
+slice-aggregate-put-within c = search needs
 
-put-text-requires : tie.Need-put-text-requires
-put-text-requires c κs =
-    let a = c .before .before .before .before .before .before .before .args in
-    let line = c .before .before .line .ensures in
-    let made = line-part (now (a .label)) comma (now (a .figures)) _ _ _ (search needs) (c .before .before .before .before .before .before .before .pre .0) (c .before .before .before .before .before .before .before .pre .1) (line .0) (line .1) in
-    omega (arith, ap length made)
+put-within-requires : tie.Need-put-within-requires
+put-within-requires c κs = search needs
 
 same-length : tie.Need-same-length
 same-length c = search needs
@@ -36,7 +33,8 @@ returns c =
     let a = c .before .before .before .before .before .before .before .before .before .before .args in
     let line = c .before .before .before .before .before .line .ensures in
     let made = line-part (now (a .label)) comma (now (a .figures)) _ _ _ (search needs) (c .before .before .before .before .before .before .before .before .before .before .pre .0) (c .before .before .before .before .before .before .before .before .before .before .pre .1) (line .0) (line .1) in
-    subst (λ (t : List ℕ). Put (a .at) t (c .before .before .put-text .result) (now (a .out)) (c .before .before .put-text .last .1 .0)) made (c .before .before .put-text .ensures)
+    subst (λ (t : List ℕ). Put (a .at) t (c .before .before .put-within .result) (now (a .out)) (c .before .before .put-within .last .1 .0)) made
+    (put-fits _ _ _ _ _ (omega (arith, ap length made)) (c .before .before .put-within .ensures))
 
 pub put-line-spec : {M : Type 1} → statement M
 put-line-spec =
@@ -44,7 +42,7 @@ put-line-spec =
     (tie.spec
     line-requires
     array-share-prefix-buffer
-    slice-aggregate-put-text
-    put-text-requires
+    slice-aggregate-put-within
+    put-within-requires
     same-length
     returns)
