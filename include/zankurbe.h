@@ -5,11 +5,11 @@
  * Quantities are whole kilowatts (kW). Interties and holders (load serving entities) count from 0.
  *
  * Lent memory. The caller lends every buffer, as a pointer and a count of elements (bytes, 32-bit words or
- * 64-bit numbers). A pointer must be valid for that many elements and aligned as its type asks; it must not
- * be null, not even with a count of 0, where the address of any object of the type will do. The buffers of
- * one call must not overlap. A buffer behind a pointer to const is only read. The library keeps no pointer
- * and no memory of its own: calls on different buffers may run at the same time. A call takes at most
- * 512 KB of stack.
+ * 64-bit numbers); the numbers of a posting have no count, since there are always 480. A pointer must be
+ * valid for that many elements and aligned as its type asks; it must not be null, not even with a count of
+ * 0, where the address of any object of the type will do. The buffers of one call must not overlap. A buffer
+ * behind a pointer to const is only read. The library keeps no pointer and no memory of its own: calls on
+ * different buffers may run at the same time. A call takes at most 512 KB of stack.
  *
  * Any content is taken: whatever bytes, words and numbers are lent and passed, a call ends and decides for
  * itself. A refused call answers its number with 0 kW and 0 passes and writes nothing at all. Where several
@@ -44,7 +44,10 @@ extern "C" {
 #define ZANKURBE_CALL_WORDS 6
 #define ZANKURBE_ANSWER_WORDS 3
 
-/* Ranges; the least is 1 for the sizes, for the kW of a call, for years, terms and ranks, else 0. */
+/*
+ * Ranges; the least is 1 for the sizes, for the kW of a call and of records of kinds 2, 4, 5 and 6, for
+ * years, terms and ranks, else 0.
+ */
 
 #define ZANKURBE_MOST_INTERTIES 48
 #define ZANKURBE_MOST_HOLDERS 32
