@@ -52,7 +52,7 @@ extern "C" {
 #define ZANKURBE_MOST_INTERTIES 48
 #define ZANKURBE_MOST_HOLDERS 32
 #define ZANKURBE_MOST_RECORDS 1024
-/* The most kW of a limit, of a record, of a call and of the pool of a share-out. */
+/* The most kW of a record, but for a load share, of a call and of the pool of a share-out. */
 #define ZANKURBE_MOST_KW 20000000
 #define ZANKURBE_MOST_LOAD_SHARE 100000000
 #define ZANKURBE_MOST_RANK 255
@@ -90,7 +90,7 @@ extern "C" {
 #define ZANKURBE_KEY_RANK_SHIFT 16
 #define ZANKURBE_KEY_YEARS_SHIFT 24
 
-/* A key from its fields. */
+/* A key from its fields, which must be within their widths: 4, 6, 6, 8 and 8 bits. */
 #define ZANKURBE_KEY(kind, holder, intertie, rank, years)                                                    \
     ((uint32_t)(kind) | (uint32_t)(holder) << ZANKURBE_KEY_HOLDER_SHIFT                                      \
      | (uint32_t)(intertie) << ZANKURBE_KEY_INTERTIE_SHIFT | (uint32_t)(rank) << ZANKURBE_KEY_RANK_SHIFT     \
@@ -235,7 +235,8 @@ struct zankurbe_verdict {
  * Shares a pool of kW out over claims by weight, in passes. Writes the grant of each claim into the first
  * places of the output, one for each claim; later places stay. Answers the kW granted and the passes: 0
  * passes where the pool meets all claims. Refused 5 where claims and weights are of unlike length, are over
- * 32 or the output is shorter; 9 where the pool, a claim or a weight is out of range.
+ * 32 or the output is shorter; 9 where the pool, a claim or a weight is out of range. Claims, weights and
+ * output must not overlap.
  */
 struct zankurbe_answer zankurbe_share_out(uint64_t pool, const uint64_t *claims, size_t claims_len,
                                           const uint64_t *weights, size_t weights_len, uint64_t *output,
@@ -254,21 +255,21 @@ uint32_t zankurbe_state_refusal(const uint32_t *state, size_t state_len);
  * Opens the year from a sheet (Steps 1 to 7). Reads no word of the state and writes all that this header
  * names, for the sheet's interties and holders: stage 1, unplaced = Step 5 share, unassigned = what E, P
  * and N leave. Answers T, the available import capability of all interties, and 0 passes. Refused 1 to 4
- * for the sheet, 5 for a state under 16,000 words.
+ * for the sheet, 5 for a state under 16,000 words. Sheet and state must not overlap.
  */
 struct zankurbe_answer zankurbe_open(const uint8_t *sheet, size_t sheet_len, uint32_t *state,
                                      size_t state_len);
 
 /*
  * Posts a sheet: writes the ten rows' numbers of its interties and holders; the others of the 480 stay.
- * Answers T and 0 passes. Refused 1 to 4.
+ * Answers T and 0 passes. Refused 1 to 4. Sheet and lines must not overlap.
  */
 struct zankurbe_answer zankurbe_post(const uint8_t *sheet, size_t sheet_len,
                                      uint64_t lines[ZANKURBE_POST_NUMBERS]);
 
 /*
  * Says whether two sheets open to equal states. Writes nothing. Refused 1 to 4 for the first sheet, then
- * for the second; a refusal has same = false.
+ * for the second; a refusal has same = false. The sheets must not overlap.
  */
 struct zankurbe_verdict zankurbe_same(const uint8_t *first, size_t first_len, const uint8_t *second,
                                       size_t second_len);
@@ -313,10 +314,11 @@ struct zankurbe_answer zankurbe_take(uint32_t *state, size_t state_len, uint32_t
 
 /*
  * Closes the stage (1 to 3) and raises it by one. From stages 2 and 3 it shares out each intertie's
- * unassigned kW over what is pending there: grants go from unassigned to placed and leave unplaced, and
- * pending becomes 0. The grant of holder h on intertie i is written to word h x I + i of the grants, 0 from
+ * unassigned kW over what is pending there, by load share or, for a holder without one, the average load
+ * share of its sellers: grants go from unassigned to placed and leave unplaced, and pending becomes 0. The
+ * grant of holder h on intertie i is written to word h x I + i of the grants, 0 from
  * stage 1; later words stay. Answers the kW and the passes over all interties. Refused 5 for a state under
- * 16,000 words or grants under 1,536; 6; 7 in stage 4.
+ * 16,000 words or grants under 1,536; 6; 7 in stage 4. State and grants must not overlap.
  */
 struct zankurbe_answer zankurbe_close(uint32_t *state, size_t state_len, uint32_t *grants, size_t grants_len);
 
@@ -326,7 +328,8 @@ struct zankurbe_answer zankurbe_close(uint32_t *state, size_t state_len, uint32_
  * call n is written to numbers 3 n (refusal), 3 n + 1 (kW) and 3 n + 2 (passes) of the answers; later
  * numbers stay. A call that is refused leaves the state and the grants as the calls before it did. Returns
  * true; or false, with nothing read as a call and nothing written, where the words are no list of calls
- * (their count isn't a multiple of six, or a kind isn't 1 to 6) or the answers have no room.
+ * (their count isn't a multiple of six, or a kind isn't 1 to 6) or the answers have no room. Calls, state,
+ * grants and answers must not overlap.
  */
 bool zankurbe_run_calls(const uint32_t *calls, size_t calls_len, uint32_t *state, size_t state_len,
                         uint32_t *grants, size_t grants_len, uint64_t *answers, size_t answers_len);
@@ -337,7 +340,7 @@ bool zankurbe_run_calls(const uint32_t *calls, size_t calls_len, uint32_t *state
  * their order; then the locks by holder and intertie, as New Use commitments of years = term and of ranks
  * above the holder's. It has 12 + 8 x (its records) bytes; the bytes after them stay. Answers 0 kW and 0
  * passes. Refused 1 to 4 for the sheet; 5 to 7 for the state; 14 where sizes differ, records pass 1,024, a
- * rank passes 255 or the output is too short.
+ * rank passes 255 or the output is too short. Sheet, state and output must not overlap.
  */
 struct zankurbe_answer zankurbe_carry(const uint8_t *sheet, size_t sheet_len, const uint32_t *state,
                                       size_t state_len, uint8_t *output, size_t output_len);

@@ -2,22 +2,35 @@
 // output.
 pub mod writing;
 
+use libc::STDERR_FILENO;
 use libc::STDIN_FILENO;
 use libc::STDOUT_FILENO;
 use writing::TEXT_BYTES;
 
 // The longest sheet has 8,204 bytes. With room for one byte more a longer input is told from it, and
 // is refused with number 1.
-const INPUT_BYTES: usize = 8205;
+const SHEET_ROOM: usize = 8_205;
 
-// Reads a sheet from standard input and prints its posting, or `R` and the number of its refusal.
+// Reads a sheet from standard input and prints its posting, or `R` and the number of its refusal. Where it can't
+// be read or printed, standard error says so.
 pub fn post_input() {
-    let mut input = [0u8; INPUT_BYTES];
-    let count = io::read_full(STDIN_FILENO, &mut input);
-    print_posting(&input[..count]);
+    let mut sheet = [0u8; SHEET_ROOM];
+    let read = input::read_whole(STDIN_FILENO, &mut sheet);
+    if !read.whole {
+        say(b"standard input: can't be read\n");
+        return;
+    }
+    let count = read.count;
+    if !print_posting(&sheet[..count]) {
+        say(b"standard output: can't be written\n");
+    }
 }
 
-// A write that fails ends the printing.
+fn say(text: &[u8]) {
+    io::write_all(STDERR_FILENO, text);
+}
+
+// Answers whether the posting was written.
 fn print_posting(sheet: &[u8]) -> bool {
     let mut out = [0u8; TEXT_BYTES];
     let count = writing::posting_text(sheet, &mut out);

@@ -7,8 +7,11 @@ use table::Converted;
 use table::SHEET_BYTES;
 use table::TABLE_BYTES;
 
-// The longest text that is read. With room for one byte more a longer one is told from it.
-const INPUT_BYTES: usize = 131_072;
+// Room for the longest text that is read, 131,072 bytes, and for one byte more, by which a longer one is told from it.
+const TEXT_ROOM: usize = 131_073;
+
+// The same for a sheet.
+const SHEET_ROOM: usize = 8_205;
 
 pub fn run() {
     let words = os::arg_count();
@@ -28,13 +31,18 @@ fn say(text: &[u8]) {
 }
 
 fn convert_input() {
-    let mut input = [0u8; 131_073];
-    let count = io::read_full(STDIN_FILENO, &mut input);
-    if INPUT_BYTES < count {
+    let mut text = [0u8; TEXT_ROOM];
+    let read = input::read_whole(STDIN_FILENO, &mut text);
+    if !read.whole {
+        os::fail(b"standard input");
+        return;
+    }
+    let count = read.count;
+    if TEXT_ROOM <= count {
         say(b"the text has over 131,072 bytes\n");
         return;
     }
-    write_sheet(&input[..count]);
+    write_sheet(&text[..count]);
 }
 
 fn write_sheet(text: &[u8]) {
@@ -45,7 +53,13 @@ fn write_sheet(text: &[u8]) {
         return;
     }
     let count = converted.count;
-    io::write_all(STDOUT_FILENO, &sheet[..count]);
+    write_out(&sheet[..count]);
+}
+
+fn write_out(bytes: &[u8]) {
+    if !io::write_all(STDOUT_FILENO, bytes) {
+        os::fail(b"standard output");
+    }
 }
 
 // As `line 3, column 2 (holder): not a number`.
@@ -123,10 +137,17 @@ fn print_file(name: &[u8]) {
         os::fail(name);
         return;
     }
-    let mut sheet = [0u8; 8205];
-    let count = io::read_full(file, &mut sheet);
+    let mut sheet = [0u8; SHEET_ROOM];
+    let read = input::read_whole(file, &mut sheet);
+    if !read.whole {
+        os::fail(name);
+    }
     libc::close(file);
-    if SHEET_BYTES < count {
+    if !read.whole {
+        return;
+    }
+    let count = read.count;
+    if SHEET_ROOM <= count {
         say(name);
         say(b": longer than a sheet\n");
         return;
@@ -142,5 +163,5 @@ fn print_sheet(name: &[u8], sheet: &[u8]) {
         say(b": not a sheet, refused with number 1\n");
         return;
     }
-    io::write_all(STDOUT_FILENO, &text[..count]);
+    write_out(&text[..count]);
 }

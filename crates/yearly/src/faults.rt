@@ -1,6 +1,7 @@
 // Lines on standard error, one for what kept a year from being run.
 use super::JOURNAL;
 use super::NEXT_SHEET;
+use super::SHEET;
 use super::files;
 use libc::STDERR_FILENO;
 
@@ -15,7 +16,12 @@ pub(super) fn usage() {
     say(b"usage: year SHEET JOURNAL [NEXT-SHEET]\n");
 }
 
-pub(super) fn too_long() {
+pub(super) fn too_long_sheet() {
+    files::print_name(SHEET);
+    say(b": longer than a sheet, which has at most 8,204 bytes\n");
+}
+
+pub(super) fn too_long_journal() {
     files::print_name(JOURNAL);
     say(b": longer than 1,048,576 bytes\n");
 }

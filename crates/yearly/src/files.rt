@@ -1,13 +1,8 @@
 // Files by the names that the arguments give.
+use input::Read;
 use libc::STDERR_FILENO;
 ghost use mathlib.Core.Path.{_≡_};
 ghost use Rattle.io.specs.Counts.{Counts};
-
-// What was read: whether that is the whole, and how much it is.
-pub(super) struct Read {
-    pub whole: bool,
-    pub count: usize,
-}
 
 pub(super) fn nothing() -> Read
     ensures { λ r. ⌜ r .count ≡ 0 ⌝ }
@@ -40,19 +35,12 @@ fn read_named(name: &[u8], buffer: &mut [u8]) -> Read
         os::fail(name);
         return nothing();
     }
-    let count = io::read_full(file, buffer);
-    let whole = (count == buffer.len()) | at_end(file);
-    if !whole {
+    let read = input::read_whole(file, buffer);
+    if !read.whole {
         os::fail(name);
     }
     libc::close(file);
-    Read { whole, count }
-}
-
-// Whether a file that was read has ended. Where a read failed, it has not.
-fn at_end(file: i32) -> bool {
-    let mut more = [0u8; 1];
-    libc::read(file, &mut more) == 0
+    read
 }
 
 // Writes the name that an argument gives to standard error.

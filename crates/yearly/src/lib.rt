@@ -8,7 +8,7 @@ mod running;
 
 use control::ANSWERS_WORDS;
 use control::CALLS_WORDS;
-use files::Read;
+use input::Read;
 use state::layout::STATE_WORDS;
 ghost use Prim.Native.Nat.{_≤_};
 
@@ -20,8 +20,7 @@ const JOURNAL: usize = 2;
 
 const NEXT_SHEET: usize = 3;
 
-// The longest sheet has 8,204 bytes. With room for one byte more a longer file is told from it, and is
-// refused with number 1.
+// Room for the longest sheet, 8,204 bytes, and for one byte more, by which a longer file is told from it.
 const SHEET_BYTES: usize = 8_205;
 
 // Room for a journal of 1,048,576 bytes and for one byte more.
@@ -56,6 +55,10 @@ fn run_files(
         return;
     }
     let end = file.count;
+    if SHEET_BYTES <= end {
+        faults::too_long_sheet();
+        return;
+    }
     let bytes: &[u8] = sheet;
     run_list(&bytes[..end], calls, journal.count, carries);
 }
@@ -71,7 +74,7 @@ fn read_calls(text: &mut [u8; JOURNAL_BYTES], calls: &mut [u32; CALLS_WORDS]) ->
         return files::nothing();
     }
     if JOURNAL_BYTES <= end {
-        faults::too_long();
+        faults::too_long_journal();
         return files::nothing();
     }
     let bytes: &[u8] = text;

@@ -1,4 +1,5 @@
-// Lines on standard output. Each function answers whether its lines were written.
+// Lines on standard output. Each function answers whether its lines were written. Where they were not, standard
+// error says why.
 use control::ANSWER_WORDS;
 use control::ANSWERS_WORDS;
 use control::CALLS_WORDS;
@@ -12,7 +13,11 @@ pub(super) const GRANTS_WORDS: usize = 1_536;
 fn print(label: &[u8], figures: &[u64]) -> bool {
     let mut out = [0u8; LINE_BYTES];
     let count = text::line(label, b' ', figures, &mut out);
-    io::write_all(STDOUT_FILENO, &out[..count])
+    if io::write_all(STDOUT_FILENO, &out[..count]) {
+        return true;
+    }
+    os::fail(b"standard output");
+    false
 }
 
 pub(super) fn refused(number: u64) -> bool {

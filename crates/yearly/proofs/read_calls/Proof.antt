@@ -14,8 +14,8 @@ nothing-requires c κs = search needs
 returns : tie.Need-returns
 returns c = search needs
 
-too-long-requires : tie.Need-too-long-requires
-too-long-requires c κs = search needs
+too-long-journal-requires : tie.Need-too-long-journal-requires
+too-long-journal-requires c κs = search needs
 
 nothing-requires-2 : tie.Need-nothing-requires-2
 nothing-requires-2 c κs = search needs
@@ -48,7 +48,7 @@ read-calls-spec =
     read-argument-requires
     nothing-requires
     returns
-    too-long-requires
+    too-long-journal-requires
     nothing-requires-2
     returns-2
     slice-aggregate-read-journal
