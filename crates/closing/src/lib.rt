@@ -40,7 +40,7 @@ fn close_refusal(state: &[u32], grants: &[u32]) -> u32
     if short_grants(grants.len()) {
         return 5;
     }
-    let unfit = state::state_refusal(state);
+    let unfit = orderly::state_refusal(state);
     if unfit != 0 {
         return unfit;
     }
