@@ -4,20 +4,19 @@ use mathlib.Core.Path.{_≡_, refl, sym, ap, _∙_}
 use mathlib.Core.Bool.{Bool, true, false, _&&_, _||_, Bool·beq, and-assoc, and-comm, and-false, and-true}
 use mathlib.Core.List.{List}
 use native.Mathlib.Omega.{arith}
+use lib.Bits.{bitOr}
 use lib.Dec.{leb, ltb, eqb, leb·zero, leb·suc-zero, eqb·suc-zero}
 use lib.ListN.{length}
 use lib.Pow.{ones-split, ones-lt, le-ones, lt-of-le-ones, high}
 use borrow.Author.Tests.{lt-ltb, le-leb, leb-true, ltb-true}
 use Rattle.base.specs.Choice.{pick}
 use Rattle.base.specs.Sums.{sumTo, allTo}
-use Rattle.base.specs.Words.{at, fill}
 use Rattle.base.proofs.ChoiceLaws.{and-both}
-use Rattle.base.proofs.SumLaws.{sumTo-add, sumTo-bound, allTo-all}
-use Rattle.base.proofs.WordLaws.{at-fill}
-use Rattle.state.specs.Layout.{stateWords, interties, holders, limitOf, loadShareOf, step5ShareOf, step7TotalOf, reservedOf, unplacedOf, sellersOf, takingsOf, existingAt, existingOf, preRaAt, preRaOf, newUseAt, newUseOf, placedAt, placedOf, takenAt, takenOf, lockedOf, termOf, pendingOf, ofHolder, stageOf}
-use Rattle.state.specs.Orderly.{orderly, sizesInRange, stageInRange, limitsInRange, loadSharesInRange, balanced, lockedWithinPlaced, pendingWithinUnplaced, kwInRange, takingsInRange, sellersAreHolders, termsFit, termFits, intertieKw, noRequests}
-use Rattle.orderly.specs.Check.{Sized, fieldsInRange, rowsInOrder, pairKw, limitMet, lockFits, pairLockFits, mostPending}
-use Rattle.state.proofs.BaseMore.{fault, same-test, both-left, both-right, each-le, and-left-comm, allTo-same, allTo-both, allTo-pairs-both, four, sum-turn}
+use Rattle.base.proofs.SumLaws.{allTo-each, allTo-all}
+use Rattle.state.specs.Layout.{stateWords, interties, holders, loadShareOf, step5ShareOf, step7TotalOf, reservedOf, unplacedOf, sellersOf, takingsOf, placedOf, lockedOf, termOf, pendingOf, ofHolder, stageOf}
+use Rattle.state.specs.Orderly.{orderly, sizesInRange, stageInRange, limitsInRange, loadSharesInRange, balanced, lockedWithinPlaced, pendingWithinUnplaced, kwInRange, takingsInRange, sellersAreHolders, termsFit, termFits, noRequests}
+use Rattle.orderly.specs.Check.{Sized, fieldsInRange, rowsInOrder, lockFits, pairLockFits, unlocked, mostPending}
+use Rattle.state.proofs.BaseMore.{fault, same-test, both-left, both-right, and-left-comm, allTo-same, allTo-both, allTo-pairs-both, four, tests-turn, or-none}
 
 -- a term at most 30, and 0 exactly where nothing is locked
 term-test : (locked term : ℕ) → (leb term 30 && Bool·beq (eqb locked 0) (eqb term 0)) ≡ termFits locked term
@@ -66,24 +65,32 @@ locks-are s =
     (λ h i. leb (lockedOf s h i) (placedOf s h i))
     (λ h i. termFits (lockedOf s h i) (termOf s h i))
 
+-- a loop that puts the bits of locked kW and terms together: a turn
+pub unlocked-turn :
+    (s : List ℕ) (h i bits locked term : ℕ)
+    → eqb bits 0 ≡ allTo i (λ j. unlocked s h j) → locked ≡ lockedOf s h i → term ≡ termOf s h i
+    → eqb (bitOr (bitOr bits locked) term) 0 ≡ allTo (i + 1) (λ j. unlocked s h j)
+unlocked-turn s h i bits locked term e l t =
+    or-none (bitOr bits locked) term
+    ∙ ap (λ (b : Bool). b && leb term 0) (or-none bits locked)
+    ∙ and-assoc (eqb bits 0) (leb locked 0) (leb term 0)
+    ∙ tests-turn i (λ j. unlocked s h j) {a = eqb bits 0} {b = leb locked 0 && leb term 0} e (cc)
+
 -- a holder without a lock has its locks in order
-unlocked : (placed locked term : ℕ) → locked ≤ 0 → term ≤ 0 → lockFits placed locked term ≡ true
-unlocked placed zero zero l t = rw (leb·zero placed) refl
-unlocked placed zero (suc t) l h = absurd (omega arith)
-unlocked placed (suc k) t l h = absurd (omega arith)
+unlocked-fits : (placed locked term : ℕ) → locked ≤ 0 → term ≤ 0 → lockFits placed locked term ≡ true
+unlocked-fits placed zero zero l t = rw (leb·zero placed) refl
+unlocked-fits placed zero (suc t) l h = absurd (omega arith)
+unlocked-fits placed (suc k) t l h = absurd (omega arith)
 
 pub no-lock-fits :
-    (s : List ℕ) (h : ℕ) {b : Bool}
-    → b ≡ (allTo (interties s) (λ i. leb (lockedOf s h i) 0) && allTo (interties s) (λ i. leb (termOf s h i) 0)) → b ≡ true
+    (s : List ℕ) (h : ℕ) {b : Bool} → b ≡ allTo (interties s) (λ i. unlocked s h i) → b ≡ true
     → true ≡ allTo (interties s) (λ i. pairLockFits s h i)
 no-lock-fits s h e t =
-    let locked : ℕ → ℕ = λ i. lockedOf s h i in
-    let term : ℕ → ℕ = λ i. termOf s h i in
-    let none : ℕ → ℕ = λ i. 0 in
-    let no-locked = both-left (allTo (interties s) (λ i. leb (locked i) 0)) (allTo (interties s) (λ i. leb (term i) 0)) (sym e ∙ t) in
-    let no-terms = both-right (allTo (interties s) (λ i. leb (locked i) 0)) (allTo (interties s) (λ i. leb (term i) 0)) (sym e ∙ t) in
     sym (allTo-all (interties s) (λ i. pairLockFits s h i) (λ i l.
-    unlocked (placedOf s h i) (locked i) (term i) (each-le (interties s) locked none no-locked i l) (each-le (interties s) term none no-terms i l)))
+    let none : unlocked s h i ≡ true = allTo-each (interties s) (λ j. unlocked s h j) (sym e ∙ t) i l in
+    unlocked-fits (placedOf s h i) (lockedOf s h i) (termOf s h i)
+    (leb-true (lockedOf s h i) 0 (both-left (leb (lockedOf s h i) 0) (leb (termOf s h i) 0) none))
+    (leb-true (termOf s h i) 0 (both-right (leb (lockedOf s h i) 0) (leb (termOf s h i) 0) none))))
 
 -- words are all 0 where their sum is
 zero-both : (a b : ℕ) → leb (a + b) 0 ≡ (leb a 0 && leb b 0)
@@ -149,62 +156,10 @@ sellers-are s h =
     allTo-same (holders s) (λ j. leb (sellersOf s j) (4294967295 / 2 ^ (32 - holders s))) (λ j. ltb (sellersOf s j) (2 ^ holders s))
     (λ j l. mask-test (holders s) (sellersOf s j) h)
 
--- the kW of the pairs on an intertie, field by field
-pub pairs-on :
-    (s : List ℕ) (n i : ℕ)
-    → sumTo n (λ h. pairKw s h i)
-    ≡ sumTo n (λ h. existingOf s h i) + sumTo n (λ h. preRaOf s h i) + sumTo n (λ h. newUseOf s h i) + sumTo n (λ h. placedOf s h i) + sumTo n (λ h. takenOf s h i)
-pairs-on s n i =
-    cc (
-      sumTo-add n (λ h. existingOf s h i) (λ h. preRaOf s h i),
-      sumTo-add n (λ h. existingOf s h i + preRaOf s h i) (λ h. newUseOf s h i),
-      sumTo-add n (λ h. existingOf s h i + preRaOf s h i + newUseOf s h i) (λ h. placedOf s h i),
-      sumTo-add n (λ h. existingOf s h i + preRaOf s h i + newUseOf s h i + placedOf s h i) (λ h. takenOf s h i),
-    )
-
--- the kW of n pairs, of words below 2 ^ 32
-pub pairs-most : (s : List ℕ) (n i : ℕ) → ((p : ℕ) → at s p < 2 ^ 32) → sumTo n (λ h. pairKw s h i) ≤ n * 21474836480
-pairs-most s n i word =
-    sumTo-bound n 21474836480 (λ h. pairKw s h i)
-    (λ h l.
-    omega (
-      arith,
-      word (existingAt h i),
-      word (preRaAt h i),
-      word (newUseAt h i),
-      word (placedAt h i),
-      word (takenAt h i),
-    ))
-
--- one holder more in the sums of n interties
-pub holder-turn :
-    (s sums next : List ℕ) (n h : ℕ)
-    → next ≡ fill n (λ i. at sums i + pairKw s h i) sums
-    → n ≤ length sums
-    → ((i : ℕ) → i < n → at sums i ≡ sumTo h (λ k. pairKw s k i))
-    → (i : ℕ) → i < n → at next i ≡ sumTo (h + 1) (λ k. pairKw s k i)
-holder-turn s sums next n h e long held i l =
-    ap (λ (k : List ℕ). at k i) e
-    ∙ at-fill n (λ j. at sums j + pairKw s h j) sums i l long
-    ∙ sum-turn h (λ k. pairKw s k i) (held i l) refl
-
--- limits met by the sums of the pairs
-pub balanced-is :
-    (s sums : List ℕ)
-    → ((i : ℕ) → i < interties s → at sums i ≡ sumTo (holders s) (λ h. pairKw s h i))
-    → allTo (interties s) (λ i. limitMet s i (at sums i)) ≡ balanced s
-unfolding balanced
-balanced-is s sums h =
-    allTo-same (interties s)
-    (λ i. limitMet s i (at sums i))
-    (λ i. eqb (limitOf s i) (intertieKw s i))
-    (λ i l. ap (λ (x : ℕ). eqb (limitOf s i) x) (omega (arith, h i l, pairs-on s (holders s) i)))
-
 -- the fields in the order in which they are tested
 pub fields-are :
-    (s : List ℕ) (n m : ℕ) → n ≡ interties s → m ≡ holders s → m ≤ 32
-    → {limits shares step5 step7 reserved takings sellers : Bool} {unplaced : ℕ}
-    → limits ≡ allTo n (λ i. leb (limitOf s i) 20000000)
+    (s : List ℕ) (m : ℕ) → m ≡ holders s → m ≤ 32
+    → {shares step5 step7 reserved takings sellers : Bool} {unplaced : ℕ}
     → shares ≡ allTo m (λ h. leb (loadShareOf s h) 100000000)
     → unplaced ≡ sumTo m (λ h. unplacedOf s h)
     → step5 ≡ allTo m (λ h. leb (step5ShareOf s h) 960000000)
@@ -212,11 +167,11 @@ pub fields-are :
     → reserved ≡ allTo m (λ h. leb (reservedOf s h) 960000000)
     → takings ≡ allTo m (λ h. leb (takingsOf s h) 2)
     → sellers ≡ allTo m (λ h. leb (sellersOf s h) (4294967295 / 2 ^ (32 - m)))
-    → (limits && shares && leb unplaced 960000000 && step5 && step7 && reserved && takings && sellers) ≡ fieldsInRange s
-unfolding limitsInRange loadSharesInRange kwInRange takingsInRange
-fields-are s n m en em most {limits} {shares} {step5} {step7} {reserved} {takings} {sellers} {unplaced} e1 e2 e3 e4 e5 e6 e7 e8 =
+    → (shares && leb unplaced 960000000 && step5 && step7 && reserved && takings && sellers) ≡ fieldsInRange s
+unfolding loadSharesInRange kwInRange takingsInRange
+fields-are s m em most {shares} {step5} {step7} {reserved} {takings} {sellers} {unplaced} e2 e3 e4 e5 e6 e7 e8 =
     let mask : allTo m (λ h. leb (sellersOf s h) (4294967295 / 2 ^ (32 - m))) ≡ sellersAreHolders s = rw em (sellers-are s (rw em at most)) in
-    rw (e1, e2, e3, e4, e5, e6, e7, e8, mask, en, em) (simp and-assoc)
+    rw (e2, e3, e4, e5, e6, e7, e8, mask, em) (simp and-assoc)
 
 -- sizes in range, and a state that is long enough for them
 pub sized : (s : List ℕ) → stateWords ≤ length s → (sizesInRange s && stageInRange s) ≡ true → Sized s
@@ -235,7 +190,7 @@ sized s long e =
 -- the parts in the order in which they are tested
 regroup :
     (sizes limits shares balance locked pending kw takings sellers terms : Bool)
-    → sizes ≡ true → (limits && shares && kw && takings && sellers && balance && (locked && terms) && pending)
+    → sizes ≡ true → (shares && kw && takings && sellers && (limits && balance) && (locked && terms) && pending)
     ≡ (sizes && limits && shares && balance && locked && pending && kw && takings && sellers && terms)
 regroup z l o b k p w t s m e = rw e (simp (and-assoc, and-comm, and-left-comm))
 
