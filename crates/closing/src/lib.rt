@@ -29,7 +29,7 @@ pub fn close(state: &mut [u32], grants: &mut [u32]) -> Answer
     let mut granted = [0u64; 1536];
     let answer = sharing::share_out_pending(state, &mut granted);
     buffer::write_grants(state, &granted, grants);
-    applying::apply(state, &mut granted);
+    applying::apply(state, &granted);
     answer
 }
 

@@ -2,7 +2,9 @@
 use base::Answer;
 ghost use mathlib.Core.Path.{_≡_};
 ghost use Prim.Native.Nat.{_+_};
+ghost use lib.Dec.{eqb};
 ghost use lib.ListN.{length};
+ghost use Rattle.base.specs.Choice.{pick};
 ghost use Rattle.base.specs.Words.{at, tab};
 ghost use Rattle.interties.specs.Pairs.{column, fillColumn};
 ghost use Rattle.interties.specs.Rule.{unfitSizes, shareOutEach};
@@ -56,6 +58,15 @@ fn clear(words: &mut [u64])
     }
 }
 
+// Clears the output of a share-out that was refused, which has left it as it was.
+fn settle(refusal: u32, output: &mut [u64])
+    ensures { λ _. ⌜ now (output .exit) ≡ pick (eqb refusal 0) (now (output .entry)) (tab (length (now (output .entry))) (λ h. 0)) ⌝ }
+{
+    if refusal != 0 {
+        clear(output);
+    }
+}
+
 // Scatters the holders' words over an intertie of a table.
 fn scatter(words: &[u64], intertie: usize, table: &mut [u64])
     requires { ⌜ InTable intertie (length (now words)) (now table) ⌝ }
@@ -82,9 +93,9 @@ fn share_out_on(
     ensures { λ r. ⌜ SharedOn intertie (length (now (claimed .entry))) (now (pools .entry)) (now (claims .entry)) (now (weights .entry)) (now (grants .entry)) r (now (grants .exit)) ⌝ }
 {
     gather(claims, intertie, claimed);
-    clear(output);
     let holders = claimed.len();
     let answer = share_out::share_out(pools[intertie], claimed, &weights[..holders], output);
+    settle(answer.refusal, output);
     scatter(output, intertie, grants);
     answer
 }
