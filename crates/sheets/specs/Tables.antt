@@ -1,5 +1,5 @@
 -- The tables that one pass over the records fills: a slot for each limit, outside right, load share, contract and rank, and one more for the rest.
-use Prim.Native.Nat.{ℕ, _+_, _*_}
+use Prim.Native.Nat.{ℕ, _+_, _*_, _<_}
 use mathlib.Core.Path.{_≡_}
 use mathlib.Core.Bool.{_||_}
 use mathlib.Core.List.{List}
@@ -8,7 +8,7 @@ use lib.ListN.{set, replicate}
 use Rattle.base.specs.Choice.{pick}
 use Rattle.base.specs.Words.{at, tab}
 use Rattle.sheets.specs.Key.{kindOf, holderOf, intertieOf, rankOf}
-use Rattle.sheets.specs.Sheet.{sumOver, keyAt, kwAt}
+use Rattle.sheets.specs.Sheet.{count, sumOver, keyAt, kwAt}
 use Rattle.sheets.specs.Refusal.{badLength, badSizes, sheetRefusal}
 
 -- interties 0 to 63
@@ -54,6 +54,10 @@ slot k h i r =
 
 abbrev pub slotOf : ℕ → ℕ
 slotOf key = slot (kindOf key) (holderOf key) (intertieOf key) (rankOf key)
+
+-- a list that has the slot of each record of a sheet
+abbrev pub SlotsOf : List ℕ → List ℕ → Type 0
+SlotsOf s found = (k : ℕ) → k < count s → at found k ≡ slotOf (keyAt s k)
 
 -- at each slot the sum of an amount over its records
 unfoldable pub table : List ℕ → (ℕ → ℕ) → List ℕ

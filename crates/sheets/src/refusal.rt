@@ -8,6 +8,7 @@ ghost use Rattle.base.specs.Words.{at};
 ghost use Rattle.sheets.specs.Refusal.{within, badLength, badSizes, sheetRefusal};
 ghost use Rattle.sheets.specs.Tables.{slots, Cleared, Filled, ReadSheet};
 ghost use Rattle.sheets.specs.Deciding.{tableRulesHold, tableExistingOn, tableLimitHolds, Modest};
+use crate::rules;
 use crate::tables;
 use crate::tables::SLOTS;
 use crate::words;
@@ -106,7 +107,8 @@ fn read_sized(
 {
     let intertie_count = words::word(sheet, 0) as usize;
     let holder_count = words::word(sheet, 4) as usize;
-    let stand = tables::fill_tables(sheet, counts, kw, interties);
+    let stand = rules::records_stand(sheet);
+    tables::fill_tables(sheet, counts, kw, interties);
     let rules = rules_hold(stand, counts, holder_count, intertie_count);
     let limits = limits_hold(kw, holder_count, intertie_count);
     if !rules {

@@ -1,11 +1,8 @@
--- `sheets::tables::add_record` meets its contract: the slot and the intertie that were read are those of the key.
+-- `sheets::tables::add_record` meets its contract: the slot and the intertie are those of the key.
 use borrow.Author.Needs.{needs}
 use Rattle.sheets.proofs.SlotLaws.{in-table, room, added}
 use Rattle.sheets.proofs.tables.add_record.Statement.{statement}
 use Rattle.sheets.proofs.tables.add_record.Tie as tie
-
-slot-of-requires : tie.Need-slot-of-requires
-slot-of-requires c κs = search needs
 
 intertie-requires : tie.Need-intertie-requires
 intertie-requires c κs = search needs
@@ -17,4 +14,4 @@ returns : tie.Need-returns
 returns c = search (needs, added)
 
 pub add-record-spec : {M : Type 1} → statement M
-add-record-spec = tie.close (tie.spec slot-of-requires intertie-requires add-at-requires returns)
+add-record-spec = tie.close (tie.spec intertie-requires add-at-requires returns)

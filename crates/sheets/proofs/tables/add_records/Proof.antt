@@ -1,5 +1,5 @@
--- `sheets::tables::fill_tables` meets its contract: what holds after n records (`Passed`) holds after one more, and after all of them it is
--- the contract. The measure is the records still to come.
+-- `sheets::tables::add_records` meets its contract: what holds after n records were added (`Passed`) holds after one more, and after
+-- all of them it is the contract. The measure is the records still to come.
 use Prim.Native.Nat.{ℕ, _-_}
 use mathlib.Core.Path.{_≡_, refl, _∙_}
 use native.Mathlib.Omega.{arith}
@@ -9,24 +9,22 @@ use Rattle.sheets.specs.Sheet.{count}
 use Rattle.sheets.specs.Reading.{readAt, readOf}
 use Rattle.sheets.proofs.RefusalLaws.{whole}
 use Rattle.sheets.proofs.ReadingLaws.{RecordRead, of-whole, record-read, at-end}
-use Rattle.sheets.proofs.PassLaws.{Passed, passed-none, count-room, kw-room, tie-room, passed-more, passed-all}
-use Rattle.sheets.proofs.tables.fill_tables.Statement.{statement}
-use Rattle.sheets.proofs.tables.fill_tables.Tie as tie
+use Rattle.sheets.proofs.PassLaws.{Passed, passed-none, slot-found, count-room, kw-room, tie-room, passed-more, passed-all}
+use Rattle.sheets.proofs.tables.add_records.Statement.{statement}
+use Rattle.sheets.proofs.tables.add_records.Tie as tie
 
 abbrev Inv-loop : tie.InvT-loop
-Inv-loop sheet counts₀ kw₀ interties₀ intertie-count holder-count count stand₀ cursor₀ counts kw interties stand cursor =
-    Passed sheet stand counts kw interties (cursor .at)
+Inv-loop sheet found counts₀ kw₀ interties₀ count cursor₀ counts kw interties cursor = Passed sheet counts kw interties (cursor .at)
 
 abbrev μ-loop : tie.MeasureT-loop
-μ-loop sheet counts₀ kw₀ interties₀ intertie-count holder-count count stand₀ cursor₀ counts kw interties stand cursor =
-    Rattle.sheets.specs.Sheet.count sheet - cursor .at
+μ-loop sheet found counts₀ kw₀ interties₀ count cursor₀ counts kw interties cursor = Rattle.sheets.specs.Sheet.count sheet - cursor .at
 
--- before the loop: the three words that were read, and the function's entry
-abbrev words : tie.At-loop Inv-loop μ-loop → tie.After-word3 Inv-loop μ-loop
+-- before the loop: the words that were read, and the function's entry
+abbrev words : tie.At-loop Inv-loop μ-loop → tie.After-word Inv-loop μ-loop
 words c = c .before .before
 
 abbrev entry : tie.At-loop Inv-loop μ-loop → tie.Start Inv-loop μ-loop
-entry c = words c .before .before .before .before
+entry c = words c .before .before
 
 -- what a turn reads is the sheet's record
 at-place : (c : tie.At-loop Inv-loop μ-loop) (n : ℕ) → n ≡ count (now (entry c .args .sheet))
@@ -37,16 +35,10 @@ at-place c n e = of-whole _ n _ (whole _ n (entry c .pre .0) e)
 here : (c : tie.After-read Inv-loop μ-loop) →
     let head : tie.At-loop Inv-loop μ-loop = c .before .before .before in
     RecordRead (now (entry head .args .sheet)) (head .loop .cursor .at) (c .read .given .0 .0) (c .read .given .0 .1 .0)
-here c = record-read _ _ _ _ _ (entry (c .before .before .before) .pre .0) (c .before .before .read-record .ensures ∙ at-place (c .before .before .before) _ (words (c .before .before .before) .word3 .ensures)) (c .read .given .1)
+here c = record-read _ _ _ _ _ (entry (c .before .before .before) .pre .0) (c .before .before .read-record .ensures ∙ at-place (c .before .before .before) _ (words (c .before .before .before) .word .ensures)) (c .read .given .1)
 
 word-requires : tie.Need-word-requires Inv-loop μ-loop
 word-requires c κs = omega (arith, whole _ _ (c .before .pre .0) refl)
-
-word-requires-2 : tie.Need-word-requires-2 Inv-loop μ-loop
-word-requires-2 c κs = omega (arith, whole _ _ (c .before .before .pre .0) refl)
-
-word-requires-3 : tie.Need-word-requires-3 Inv-loop μ-loop
-word-requires-3 c κs = omega (arith, whole _ _ (c .before .before .before .pre .0) refl)
 
 cast-count : tie.Need-cast-count Inv-loop μ-loop
 cast-count c = search needs
@@ -55,7 +47,7 @@ first-requires : tie.Need-first-requires Inv-loop μ-loop
 first-requires c κs = search needs
 
 loop-holds : tie.Need-loop-holds Inv-loop μ-loop
-loop-holds c = passed-none _ _ _ _ _ (c .before .before .before .before .before .pre .1) (c .first .ensures)
+loop-holds c = passed-none _ _ _ _ _ (c .before .before .before .pre .2) (c .first .ensures)
 
 read-record-requires : tie.Need-read-record-requires Inv-loop μ-loop
 read-record-requires c κs = search needs
@@ -63,18 +55,23 @@ read-record-requires c κs = search needs
 enum-known-read : tie.Need-enum-known-read Inv-loop μ-loop
 enum-known-read c = search needs
 
-record-stands-requires : tie.Need-record-stands-requires Inv-loop μ-loop
-record-stands-requires c κs = search needs
+mul-slot : tie.Need-mul-slot Inv-loop μ-loop
+mul-slot c = search needs
+
+element-copy-out-slot : tie.Need-element-copy-out-slot Inv-loop μ-loop
+element-copy-out-slot c =
+    let found = c .before in
+    omega (arith, here found, whole _ _ (entry (found .before .before .before) .pre .0) refl)
 
 add-record-requires : tie.Need-add-record-requires Inv-loop μ-loop
 add-record-requires c κs =
     let found = c .before .before .before .before .before in
     let head = found .before .before .before in
-    let known = words head .before .before .before in
     let few = whole _ _ (entry head .pre .0) refl .few in (
-      count-room _ _ _ _ _ _ (head .loop .inv) _ few,
-      kw-room _ _ _ _ _ _ (head .loop .inv) _ _ few (λ i. known .shared-slice-known .given i .fits) (here found .kw-is),
-      tie-room _ _ _ _ _ _ (head .loop .inv) _ (here found .inside) few,
+      slot-found (now (entry head .args .sheet)) (now (entry head .args .found)) _ _ (entry head .pre .1) (here found .inside) (here found .key-is),
+      count-room _ _ _ _ _ (head .loop .inv) _ few,
+      kw-room _ _ _ _ _ (head .loop .inv) _ _ few (λ i. words head .before .shared-slice-known .given i .fits) (here found .kw-is),
+      tie-room _ _ _ _ _ (head .loop .inv) _ (here found .inside) few,
     )
 
 loop-less : tie.Need-loop-less Inv-loop μ-loop
@@ -85,8 +82,7 @@ loop-again c =
     let found = c .before .before .before .before .before .before in
     let head = found .before .before .before in
     let now = here found in
-    passed-more _ _ _ _ _ _ (head .loop .inv) _ _ _ _ _ _ _ _ _ (now .inside) (now .key-is) (now .kw-is)
-    (words head .before .before .word .ensures) (words head .before .word2 .ensures) (c .before .before .before .before .record-stands .ensures)
+    passed-more _ _ _ _ _ (head .loop .inv) _ _ _ _ _ _ (now .inside) (now .key-is) (now .kw-is)
     (c .add-record .ensures .0) (c .add-record .ensures .1) (c .add-record .ensures .2) (now .next-is)
 
 enum-told : tie.Need-enum-told Inv-loop μ-loop
@@ -95,24 +91,23 @@ enum-told c = search needs
 returns : tie.Need-returns Inv-loop μ-loop
 returns c =
     let head = c .before .before .before in
-    passed-all _ _ _ _ _ _ (head .loop .inv)
-    (at-end _ _ _ (entry head .pre .0) (c .before .before .read-record .ensures ∙ at-place head _ (words head .word3 .ensures)) (c .enum-told .given .1))
+    passed-all _ _ _ _ _ (head .loop .inv)
+    (at-end _ _ _ (entry head .pre .0) (c .before .before .read-record .ensures ∙ at-place head _ (words head .word .ensures)) (c .enum-told .given .1))
 
-pub fill-tables-spec : {M : Type 1} → statement M
-fill-tables-spec =
+pub add-records-spec : {M : Type 1} → statement M
+add-records-spec =
     tie.close
     (tie.spec
     Inv-loop
     μ-loop
     word-requires
-    word-requires-2
-    word-requires-3
     cast-count
     first-requires
     loop-holds
     read-record-requires
     enum-known-read
-    record-stands-requires
+    mul-slot
+    element-copy-out-slot
     add-record-requires
     loop-less
     loop-again
