@@ -13,7 +13,7 @@ use Rattle.base.proofs.WordLaws.{fill-turn, at-fill}
 use Rattle.sheets.specs.Key.{intertieOf}
 use Rattle.sheets.specs.Sheet.{interties, holders, count, keyAt, kwAt, sumOver}
 use Rattle.sheets.specs.Refusal.{recordStands, recordsStand}
-use Rattle.sheets.specs.Tables.{slotOf, SlotsOf, slots, table, add, Filled, Cleared}
+use Rattle.sheets.specs.Tables.{slotOf, SlotsOf, slots, table, add}
 use Rattle.sheets.proofs.ReadingLaws.{word-below}
 use Rattle.sheets.proofs.TallyLaws.{zeros, tally, tally-bound, tally-all}
 use Rattle.sheets.proofs.SlotLaws.{slot-of-below}
@@ -68,27 +68,15 @@ pub slotted-all : (s found₀ found : List ℕ) (n : ℕ) → Slotted s found₀
 slotted-all s found₀ found n p room few done k l =
     ap (λ (x : List ℕ). at x k) (p .found-is) ∙ at-fill n (slotAt s) found₀ k (omega arith) (omega (arith, p .so-far))
 
--- the slot of the record that is read
-pub slot-found : (s found : List ℕ) (n key : ℕ) → SlotsOf s found → n < count s → key ≡ keyAt s n → at found n ≡ slotOf key
-slot-found s found n key all more ek = all n more ∙ ap slotOf (sym ek)
-
--- what holds after n records were added
-pub record Passed (s counts kw interties : List ℕ) (n : ℕ) : Type 0 where
+-- a table after n records were added to their slots
+pub record Added (s : List ℕ) (amount : ℕ → ℕ) (l : List ℕ) (n : ℕ) : Type 0 where
   pub so-far : n ≤ count s
-  pub counted : counts ≡ tally (slotAt s) (λ k. 1) n (zeros slots)
-  pub summed : kw ≡ tally (slotAt s) (kwAt s) n (zeros slots)
-  pub placed : interties ≡ tally (slotAt s) (λ k. intertieOf (keyAt s k)) n (zeros slots)
+  pub added : l ≡ tally (slotAt s) amount n (zeros slots)
 
--- the tables are empty before the first record
-pub passed-none : (s counts kw ties : List ℕ) (n : ℕ) → Cleared counts kw ties → n ≡ 0 → Passed s counts kw ties n
+-- it is empty before the first record
+pub added-none : (s : List ℕ) (amount : ℕ → ℕ) (l : List ℕ) (n : ℕ) → l ≡ zeros slots → n ≡ 0 → Added s amount l n
 unfolding tally
-passed-none s counts kw ties n clear e =
-    record {
-      so-far = omega arith;
-      counted = rw e (clear .no-records);
-      summed = rw e (clear .no-kw);
-      placed = rw e (clear .no-interties);
-    }
+added-none s amount l n clear e = record { so-far = omega arith; added = rw e clear }
 
 -- a table that every record was added to
 filled : (s : List ℕ) (n : ℕ) (amount : ℕ → ℕ) (l : List ℕ) → n ≡ count s → l ≡ tally (slotAt s) amount n (zeros slots) → l ≡ table s amount
@@ -98,41 +86,32 @@ filled s n amount l e t = t ∙ ap (λ (x : ℕ). tally (slotAt s) amount x (zer
 below-64 : (key : ℕ) → intertieOf key ≤ 63
 below-64 key = omega arith
 
-module _ (s counts kw ties : List ℕ) (n : ℕ) (p : Passed s counts kw ties n) where
-  -- each table has room for the next record
-  pub count-room : (key : ℕ) → count s ≤ 1024 → at counts (slotOf key) + 1 < 2 ^ 16
-  count-room key few =
-      let b : at (tally (slotAt s) (λ k. 1) n (zeros slots)) (slotOf key) ≤ n * 1 = tally-bound (slotAt s) (λ k. 1) n 1 slots (slotOf key) (λ k. le-refl 1) (slot-of-below key) in
-      rw (p .counted) (omega (arith, p .so-far))
+-- the slot that was found is that of the record that is read
+module _ (s found : List ℕ) (all : SlotsOf s found) (n : ℕ) (more : n < count s) where
+  pub slot-below : at found n < slots
+  slot-below = rw (all n more) (slot-of-below (keyAt s n))
 
-  pub kw-room : (key q : ℕ) → count s ≤ 1024 → ((i : ℕ) → at s i < 256) → q ≡ kwAt s n → at kw (slotOf key) + q < 2 ^ 64
-  kw-room key q few bytes eq =
-      let b : at (tally (slotAt s) (kwAt s) n (zeros slots)) (slotOf key) ≤ n * 4_294_967_295 = tally-bound (slotAt s) (kwAt s) n 4_294_967_295 slots (slotOf key) (λ k. word-below s (12 + 4 * count s + 4 * k) bytes) (slot-of-below key) in
-      rw (p .summed) (omega (arith, p .so-far, word-below s (12 + 4 * count s + 4 * n) bytes))
+  module _ (amount : ℕ → ℕ) (l : List ℕ) (p : Added s amount l n) where
+    room : (b : ℕ) → ((k : ℕ) → amount k ≤ b) → at l (at found n) ≤ n * b
+    room b small = rw (p .added) (tally-bound (slotAt s) amount n b slots (at found n) small slot-below)
 
-  pub tie-room : (key : ℕ) → n < count s → count s ≤ 1024 → at ties (slotOf key) + intertieOf key < 2 ^ 16
-  tie-room key more few =
-      let b : at (tally (slotAt s) (λ k. intertieOf (keyAt s k)) n (zeros slots)) (slotOf key) ≤ n * 63 = tally-bound (slotAt s) (λ k. intertieOf (keyAt s k)) n 63 slots (slotOf key) (λ k. below-64 (keyAt s k)) (slot-of-below key) in
-      rw (p .placed) (omega (arith, below-64 key))
+    pub added-more : (x m : ℕ) (l′ : List ℕ) → x ≡ amount n → l′ ≡ add l (at found n) x → m ≡ n + 1 → Added s amount l′ m
+    unfolding tally
+    added-more x m l′ ex el em =
+        let e : m ≡ suc n = em ∙ add-one n in
+        record { so-far = omega arith; added = rw (e, el, all n more, ex, p .added) refl }
 
-  pub passed-more : (key q m : ℕ) (counts′ kw′ ties′ : List ℕ) → n < count s → key ≡ keyAt s n → q ≡ kwAt s n
-      → counts′ ≡ add counts (slotOf key) 1 → kw′ ≡ add kw (slotOf key) q → ties′ ≡ add ties (slotOf key) (intertieOf key)
-      → m ≡ n + 1 → Passed s counts′ kw′ ties′ m
-  unfolding tally
-  passed-more key q m counts′ kw′ ties′ more ek eq ec es et em =
-      let e : m ≡ suc n = em ∙ add-one n in
-      record {
-        so-far = omega arith;
-        counted = rw (e, ec, ek, p .counted) refl;
-        summed = rw (e, es, ek, eq, p .summed) refl;
-        placed = rw (e, et, ek, p .placed) refl;
-      }
+  -- each table has room for it
+  pub count-room : (l : List ℕ) → Added s (λ k. 1) l n → count s ≤ 1024 → at l (at found n) + 1 < 2 ^ 16
+  count-room l p few = omega (arith, room (λ k. 1) l p 1 (λ k. le-refl 1))
 
-  pub passed-all : count s ≤ n → Filled s counts kw ties
-  passed-all done =
-      let e : n ≡ count s = omega (arith, p .so-far) in
-      record {
-        counted = filled s n (λ k. 1) counts e (p .counted);
-        summed = filled s n (kwAt s) kw e (p .summed);
-        placed = filled s n (λ k. intertieOf (keyAt s k)) ties e (p .placed);
-      }
+  pub kw-room : (l : List ℕ) → Added s (kwAt s) l n → (q : ℕ) → count s ≤ 1024 → ((i : ℕ) → at s i < 256) → q ≡ kwAt s n → at l (at found n) + q < 2 ^ 64
+  kw-room l p q few bytes eq =
+      omega (arith, room (kwAt s) l p 4_294_967_295 (λ k. word-below s (12 + 4 * count s + 4 * k) bytes), word-below s (12 + 4 * count s + 4 * n) bytes)
+
+  pub tie-room : (l : List ℕ) → Added s (λ k. intertieOf (keyAt s k)) l n → (i : ℕ) → count s ≤ 1024 → i ≡ intertieOf (keyAt s n) → at l (at found n) + i < 2 ^ 16
+  tie-room l p i few ei = omega (arith, room (λ k. intertieOf (keyAt s k)) l p 63 (λ k. below-64 (keyAt s k)), below-64 (keyAt s n))
+
+-- after the last record it is the table of the sheet
+pub added-all : (s : List ℕ) (amount : ℕ → ℕ) (l : List ℕ) (n : ℕ) → Added s amount l n → count s ≤ n → l ≡ table s amount
+added-all s amount l n p done = let e : n ≡ count s = omega (arith, p .so-far) in filled s n amount l e (p .added)

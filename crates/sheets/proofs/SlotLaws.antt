@@ -79,13 +79,3 @@ module _ (k h i r : ℕ) (bh : h < 64) (bi : i < 64) (br : r < 256) where
 
 pub slot-of-below : (key : ℕ) → slotOf key < slots
 slot-of-below key = slotted (kindOf key) (holderOf key) (intertieOf key) (rankOf key) (omega arith) (omega arith) (omega arith) .below
-
--- a slot and an amount as they were read have room where the slot of the key has
-pub in-table : (key j : ℕ) → j ≡ slotOf key → j < slots
-in-table key j e = rw e (slot-of-below key)
-
-pub room : (l : List ℕ) (key j a b m : ℕ) → j ≡ slotOf key → a ≡ b → at l (slotOf key) + b < m → at l j + a < m
-room l key j a b m e f h = rw (e, f) h
-
-pub added : (l t : List ℕ) (key j a b : ℕ) → j ≡ slotOf key → a ≡ b → t ≡ add l j a → t ≡ add l (slotOf key) b
-added l t key j a b e f h = rw (← e, ← f) h

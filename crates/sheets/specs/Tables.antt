@@ -1,10 +1,10 @@
--- The tables that one pass over the records fills: a slot for each limit, outside right, load share, contract and rank, and one more for the rest.
+-- The tables that the records fill: a slot for each limit, outside right, load share, contract and rank, and one more for the rest.
 use Prim.Native.Nat.{ℕ, _+_, _*_, _<_}
 use mathlib.Core.Path.{_≡_}
 use mathlib.Core.Bool.{_||_}
 use mathlib.Core.List.{List}
 use lib.Dec.{eqb, ltb}
-use lib.ListN.{set, replicate}
+use lib.ListN.{set}
 use Rattle.base.specs.Choice.{pick}
 use Rattle.base.specs.Words.{at, tab}
 use Rattle.sheets.specs.Key.{kindOf, holderOf, intertieOf, rankOf}
@@ -78,12 +78,6 @@ intertieTable s = table s (λ k. intertieOf (keyAt s k))
 -- a table with an amount added at a slot
 abbrev pub add : List ℕ → ℕ → ℕ → List ℕ
 add l j a = set l j (at l j + a)
-
--- three tables with nothing in them yet
-pub record Cleared (counts kw interties : List ℕ) : Type 0 where
-  pub no-records : counts ≡ replicate slots 0
-  pub no-kw : kw ≡ replicate slots 0
-  pub no-interties : interties ≡ replicate slots 0
 
 -- three tables that were filled from a sheet
 pub record Filled (s counts kw interties : List ℕ) : Type 0 where

@@ -4,12 +4,11 @@
 ghost use mathlib.Core.Path.{_≡_};
 ghost use mathlib.Core.Bool.{false};
 ghost use Prim.Native.Nat.{ℕ, _+_, _<_, _^_};
-ghost use lib.ListN.{length};
+ghost use lib.ListN.{length, replicate};
 ghost use Rattle.base.specs.Choice.{pick};
 ghost use Rattle.base.specs.Words.{at};
-ghost use Rattle.sheets.specs.Key.{intertieOf};
 ghost use Rattle.sheets.specs.Refusal.{badLength};
-ghost use Rattle.sheets.specs.Tables.{slot, slotOf, slots, add, SlotsOf, Cleared, Filled};
+ghost use Rattle.sheets.specs.Tables.{slot, slotOf, slots, add, SlotsOf, countTable, kwTable, intertieTable};
 use crate::cursor::Cursor;
 use crate::cursor::Read;
 use crate::key;
@@ -33,7 +32,7 @@ pub const NEW_USE: usize = 4288;
 const OTHER: u32 = 12480;
 
 // How many records a sheet may have.
-const MOST_RECORDS: usize = 1024;
+pub(crate) const MOST_RECORDS: usize = 1024;
 
 // A choice without a branch: both numbers are at hand.
 fn either(test: bool, one: u32, other: u32) -> u32
@@ -70,7 +69,7 @@ fn slot_of(key: u32) -> u32
 }
 
 // The slot of each record.
-fn find_slots(sheet: &[u8], found: &mut [u32; MOST_RECORDS])
+pub(crate) fn find_slots(sheet: &[u8], found: &mut [u32; MOST_RECORDS])
     requires { ⌜ (badLength (now sheet) ≡ false) × (length (now found) ≡ 1024) ⌝ }
     ensures { λ _. ⌜ SlotsOf (now (sheet .entry)) (now (found .exit)) ⌝ }
 {
@@ -89,61 +88,30 @@ fn find_slots(sheet: &[u8], found: &mut [u32; MOST_RECORDS])
     }
 }
 
-// Adds one record, its kilowatts and its intertie at a slot.
-fn add_at(
-    slot: usize,
-    quantity: u32,
-    intertie: u32,
-    counts: &mut [u16; SLOTS],
-    kw: &mut [u64; SLOTS],
-    interties: &mut [u16; SLOTS],
-)
-    requires { ⌜ (slot < slots)
-        × (at (now counts) slot + 1 < 2 ^ 16)
-        × (at (now kw) slot + quantity < 2 ^ 64)
-        × (at (now interties) slot + intertie < 2 ^ 16) ⌝ }
+// Adds one record and its kilowatts at a slot.
+fn add_at(slot: u32, quantity: u32, counts: &mut [u16; SLOTS], kw: &mut [u64; SLOTS])
+    requires { ⌜ (slot < slots) × (at (now counts) slot + 1 < 2 ^ 16) × (at (now kw) slot + quantity < 2 ^ 64) ⌝ }
     ensures { λ _. ⌜ (now (counts .exit) ≡ add (now (counts .entry)) slot 1)
-        × (now (kw .exit) ≡ add (now (kw .entry)) slot quantity)
-        × (now (interties .exit) ≡ add (now (interties .entry)) slot intertie) ⌝ }
+        × (now (kw .exit) ≡ add (now (kw .entry)) slot quantity) ⌝ }
 {
-    counts[slot] += 1;
-    kw[slot] += quantity as u64;
-    interties[slot] += intertie as u16;
+    let place = slot as usize;
+    counts[place] += 1;
+    kw[place] += quantity as u64;
 }
 
-// Adds a record at its slot.
-fn add_record(
-    slot: u32,
-    key: u32,
-    quantity: u32,
-    counts: &mut [u16; SLOTS],
-    kw: &mut [u64; SLOTS],
-    interties: &mut [u16; SLOTS],
-)
-    requires { ⌜ (slot ≡ slotOf key)
-        × (at (now counts) (slotOf key) + 1 < 2 ^ 16)
-        × (at (now kw) (slotOf key) + quantity < 2 ^ 64)
-        × (at (now interties) (slotOf key) + intertieOf key < 2 ^ 16) ⌝ }
-    ensures { λ _. ⌜ (now (counts .exit) ≡ add (now (counts .entry)) (slotOf key) 1)
-        × (now (kw .exit) ≡ add (now (kw .entry)) (slotOf key) quantity)
-        × (now (interties .exit) ≡ add (now (interties .entry)) (slotOf key) (intertieOf key)) ⌝ }
-{
-    let intertie = key::intertie(key);
-    add_at(slot as usize, quantity, intertie, counts, kw, interties);
-}
-
-// Adds each record to cleared tables, with its slot at hand.
-fn add_records(
+// Counts each record in cleared tables and adds its kilowatts, with its slot at hand.
+pub(crate) fn add_records(
     sheet: &[u8],
     found: &[u32; MOST_RECORDS],
     counts: &mut [u16; SLOTS],
     kw: &mut [u64; SLOTS],
-    interties: &mut [u16; SLOTS],
 )
     requires { ⌜ (badLength (now sheet) ≡ false)
         × SlotsOf (now sheet) (now found)
-        × Cleared (now counts) (now kw) (now interties) ⌝ }
-    ensures { λ _. ⌜ Filled (now (sheet .entry)) (now (counts .exit)) (now (kw .exit)) (now (interties .exit)) ⌝ }
+        × (now counts ≡ replicate slots 0)
+        × (now kw ≡ replicate slots 0) ⌝ }
+    ensures { λ _. ⌜ (now (counts .exit) ≡ countTable (now (sheet .entry)))
+        × (now (kw .exit) ≡ kwTable (now (sheet .entry))) ⌝ }
 {
     let count = words::word(sheet, 8) as usize;
     let mut cursor = Cursor::first();
@@ -153,7 +121,7 @@ fn add_records(
             Read::Next(record, next) => {
                 let place = cursor.at;
                 let slot = found[place];
-                add_record(slot, record.key, record.kw, counts, kw, interties);
+                add_at(slot, record.kw, counts, kw);
                 cursor = next;
             }
             Read::End => return,
@@ -161,17 +129,35 @@ fn add_records(
     }
 }
 
-// Fills cleared tables.
-pub(crate) fn fill_tables(
-    sheet: &[u8],
-    counts: &mut [u16; SLOTS],
-    kw: &mut [u64; SLOTS],
-    interties: &mut [u16; SLOTS],
-)
-    requires { ⌜ (badLength (now sheet) ≡ false) × Cleared (now counts) (now kw) (now interties) ⌝ }
-    ensures { λ _. ⌜ Filled (now (sheet .entry)) (now (counts .exit)) (now (kw .exit)) (now (interties .exit)) ⌝ }
+// Adds an intertie at a slot.
+fn place_at(slot: u32, intertie: u32, interties: &mut [u16; SLOTS])
+    requires { ⌜ (slot < slots) × (at (now interties) slot + intertie < 2 ^ 16) ⌝ }
+    ensures { λ _. ⌜ now (interties .exit) ≡ add (now (interties .entry)) slot intertie ⌝ }
 {
-    let mut found = [0; MOST_RECORDS];
-    find_slots(sheet, &mut found);
-    add_records(sheet, &found, counts, kw, interties);
+    let place = slot as usize;
+    interties[place] += intertie as u16;
+}
+
+// Adds the intertie of each record to a cleared table.
+pub(crate) fn place_records(sheet: &[u8], found: &[u32; MOST_RECORDS], interties: &mut [u16; SLOTS])
+    requires { ⌜ (badLength (now sheet) ≡ false)
+        × SlotsOf (now sheet) (now found)
+        × (now interties ≡ replicate slots 0) ⌝ }
+    ensures { λ _. ⌜ now (interties .exit) ≡ intertieTable (now (sheet .entry)) ⌝ }
+{
+    let count = words::word(sheet, 8) as usize;
+    let mut cursor = Cursor::first();
+    loop {
+        let read = reader::read_record(sheet, count, cursor.at);
+        match read {
+            Read::Next(record, next) => {
+                let place = cursor.at;
+                let slot = found[place];
+                let intertie = key::intertie(record.key);
+                place_at(slot, intertie, interties);
+                cursor = next;
+            }
+            Read::End => return,
+        }
+    }
 }

@@ -25,17 +25,19 @@ cast-holder-count c = search needs
 records-stand-requires : tie.Need-records-stand-requires
 records-stand-requires c κs = search needs
 
-fill-tables-requires : tie.Need-fill-tables-requires
-fill-tables-requires c κs = search needs
+add-records-requires : tie.Need-add-records-requires
+add-records-requires c κs =
+    let pre = c .before .before .before .before .before .before .pre in
+    (pre .0, pre .2, pre .3, pre .4)
 
 -- before the tables were filled: the test of each record, the two words that were read, and the function's entry
-abbrev tested : tie.After-fill-tables → tie.After-records-stand
-tested c = c .before .before .before .before
+abbrev tested : tie.After-add-records → tie.After-records-stand
+tested c = c .before .before .before
 
-abbrev words : tie.After-fill-tables → tie.After-word2
+abbrev words : tie.After-add-records → tie.After-word2
 words c = tested c .before
 
-abbrev entry : tie.After-fill-tables → tie.Start
+abbrev entry : tie.After-add-records → tie.Start
 entry c = words c .before .before .before
 
 rules-hold-requires : tie.Need-rules-hold-requires
@@ -51,12 +53,12 @@ limits-hold-requires c κs =
     let sizes = sized _ (pre .1) in (
       omega (arith, sizes, read .word2 .ensures),
       omega (arith, sizes, read .before .word .ensures),
-      rw (filled .fill-tables .ensures .summed)
+      rw (filled .add-records .ensures .1)
           (modest _ (whole _ _ (pre .0) refl .few) (λ i. read .before .before .shared-slice-known .given i .fits)),
     )
 
 -- where both tests are made, and the tables before them
-abbrev filledAt : tie.After-limits-hold → tie.After-fill-tables
+abbrev filledAt : tie.After-limits-hold → tie.After-add-records
 filledAt c = c .before .before .before .before
 
 -- the test of number 3 is that of the rules
@@ -66,7 +68,7 @@ rules c =
     let pre = entry filled .pre in
     let read = words filled in
     rules-decided _ (pre .0) (pre .1) _ _ (read .word2 .ensures) (read .before .word .ensures)
-    _ _ _ (tested filled .records-stand .ensures) (filled .fill-tables .ensures .counted) (c .before .before .rules-hold .ensures)
+    _ _ _ (tested filled .records-stand .ensures) (filled .add-records .ensures .0) (c .before .before .rules-hold .ensures)
 
 -- the test of number 4 is that of the limits
 limits : (c : tie.After-limits-hold) → c .limits-hold .result ≡ limitsHold (now (entry (filledAt c) .args .sheet))
@@ -75,20 +77,21 @@ limits c =
     let pre = entry filled .pre in
     let read = words filled in
     limits-decided _ (pre .0) (pre .1) _ _ (read .word2 .ensures) (read .before .word .ensures)
-    _ _ (filled .fill-tables .ensures .summed) (c .limits-hold .ensures)
+    _ _ (filled .add-records .ensures .1) (c .limits-hold .ensures)
 
 returns : tie.Need-returns
 returns c =
     let decided = c .before in
     let pre = entry (filledAt decided) .pre in
-    (refused-3 _ (pre .0) (pre .1) _ (rules decided) (not-true _ (c .if1 .taken)), filledAt decided .fill-tables .ensures)
+    (refused-3 _ (pre .0) (pre .1) _ (rules decided) (not-true _ (c .if1 .taken)), filledAt decided .add-records .ensures .0, filledAt decided .add-records .ensures .1)
 
 returns-2 : tie.Need-returns-2
 returns-2 c =
     let decided = c .before .before in
     let pre = entry (filledAt decided) .pre in (
       refused-4 _ (pre .0) (pre .1) _ _ (rules decided) (not-false _ (c .before .if1 .left)) (limits decided) (not-true _ (c .if2 .taken)),
-      filledAt decided .fill-tables .ensures,
+      filledAt decided .add-records .ensures .0,
+      filledAt decided .add-records .ensures .1,
     )
 
 returns-3 : tie.Need-returns-3
@@ -96,7 +99,8 @@ returns-3 c =
     let decided = c .before .before in
     let pre = entry (filledAt decided) .pre in (
       stands _ (pre .0) (pre .1) _ _ (rules decided) (not-false _ (c .before .if1 .left)) (limits decided) (not-false _ (c .if2 .left)),
-      filledAt decided .fill-tables .ensures,
+      filledAt decided .add-records .ensures .0,
+      filledAt decided .add-records .ensures .1,
     )
 
 pub read-sized-spec : {M : Type 1} → statement M
@@ -108,7 +112,7 @@ read-sized-spec =
     word-requires-2
     cast-holder-count
     records-stand-requires
-    fill-tables-requires
+    add-records-requires
     rules-hold-requires
     limits-hold-requires
     returns

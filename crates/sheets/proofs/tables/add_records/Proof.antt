@@ -1,5 +1,4 @@
--- `sheets::tables::add_records` meets its contract: what holds after n records were added (`Passed`) holds after one more, and after
--- all of them it is the contract. The measure is the records still to come.
+-- `sheets::tables::add_records` meets its contract: after n records both tables have their amounts (`Added`), and after one more. The measure is the records still to come.
 use Prim.Native.Nat.{ℕ, _-_}
 use mathlib.Core.Path.{_≡_, refl, _∙_}
 use native.Mathlib.Omega.{arith}
@@ -9,15 +8,17 @@ use Rattle.sheets.specs.Sheet.{count}
 use Rattle.sheets.specs.Reading.{readAt, readOf}
 use Rattle.sheets.proofs.RefusalLaws.{whole}
 use Rattle.sheets.proofs.ReadingLaws.{RecordRead, of-whole, record-read, at-end}
-use Rattle.sheets.proofs.PassLaws.{Passed, passed-none, slot-found, count-room, kw-room, tie-room, passed-more, passed-all}
+use Rattle.sheets.specs.Sheet.{kwAt}
+use Rattle.sheets.proofs.PassLaws.{Added, added-none, slot-below, count-room, kw-room, added-more, added-all}
 use Rattle.sheets.proofs.tables.add_records.Statement.{statement}
 use Rattle.sheets.proofs.tables.add_records.Tie as tie
 
 abbrev Inv-loop : tie.InvT-loop
-Inv-loop sheet found counts₀ kw₀ interties₀ count cursor₀ counts kw interties cursor = Passed sheet counts kw interties (cursor .at)
+Inv-loop sheet found counts₀ kw₀ count cursor₀ counts kw cursor =
+    Added sheet (λ k. 1) counts (cursor .at) × Added sheet (kwAt sheet) kw (cursor .at)
 
 abbrev μ-loop : tie.MeasureT-loop
-μ-loop sheet found counts₀ kw₀ interties₀ count cursor₀ counts kw interties cursor = Rattle.sheets.specs.Sheet.count sheet - cursor .at
+μ-loop sheet found counts₀ kw₀ count cursor₀ counts kw cursor = Rattle.sheets.specs.Sheet.count sheet - cursor .at
 
 -- before the loop: the words that were read, and the function's entry
 abbrev words : tie.At-loop Inv-loop μ-loop → tie.After-word Inv-loop μ-loop
@@ -47,7 +48,7 @@ first-requires : tie.Need-first-requires Inv-loop μ-loop
 first-requires c κs = search needs
 
 loop-holds : tie.Need-loop-holds Inv-loop μ-loop
-loop-holds c = passed-none _ _ _ _ _ (c .before .before .before .pre .2) (c .first .ensures)
+loop-holds c = (added-none _ _ _ _ (c .before .before .before .pre .2) (c .first .ensures), added-none _ _ _ _ (c .before .before .before .pre .3) (c .first .ensures))
 
 read-record-requires : tie.Need-read-record-requires Inv-loop μ-loop
 read-record-requires c κs = search needs
@@ -63,27 +64,30 @@ element-copy-out-slot c =
     let found = c .before in
     omega (arith, here found, whole _ _ (entry (found .before .before .before) .pre .0) refl)
 
-add-record-requires : tie.Need-add-record-requires Inv-loop μ-loop
-add-record-requires c κs =
-    let found = c .before .before .before .before .before in
+add-at-requires : tie.Need-add-at-requires Inv-loop μ-loop
+add-at-requires c κs =
+    let found = c .before .before .before .before in
     let head = found .before .before .before in
-    let few = whole _ _ (entry head .pre .0) refl .few in (
-      slot-found (now (entry head .args .sheet)) (now (entry head .args .found)) _ _ (entry head .pre .1) (here found .inside) (here found .key-is),
-      count-room _ _ _ _ _ (head .loop .inv) _ few,
-      kw-room _ _ _ _ _ (head .loop .inv) _ _ few (λ i. words head .before .shared-slice-known .given i .fits) (here found .kw-is),
-      tie-room _ _ _ _ _ (head .loop .inv) _ (here found .inside) few,
+    let all = entry head .pre .1 in
+    let few = whole _ _ (entry head .pre .0) refl .few in
+    let more = here found .inside in (
+      slot-below (now (entry head .args .sheet)) (now (entry head .args .found)) all _ more,
+      count-room (now (entry head .args .sheet)) (now (entry head .args .found)) all _ more _ (head .loop .inv .0) few,
+      kw-room (now (entry head .args .sheet)) (now (entry head .args .found)) all _ more _ (head .loop .inv .1) _ few (λ i. words head .before .shared-slice-known .given i .fits) (here found .kw-is),
     )
 
 loop-less : tie.Need-loop-less Inv-loop μ-loop
-loop-less c = omega (arith, here (c .before .before .before .before .before .before))
+loop-less c = omega (arith, here (c .before .before .before .before .before))
 
 loop-again : tie.Need-loop-again Inv-loop μ-loop
 loop-again c =
-    let found = c .before .before .before .before .before .before in
+    let found = c .before .before .before .before .before in
     let head = found .before .before .before in
     let now = here found in
-    passed-more _ _ _ _ _ (head .loop .inv) _ _ _ _ _ _ (now .inside) (now .key-is) (now .kw-is)
-    (c .add-record .ensures .0) (c .add-record .ensures .1) (c .add-record .ensures .2) (now .next-is)
+    let all = entry head .pre .1 in (
+      added-more (denote.Ref.now (entry head .args .sheet)) (denote.Ref.now (entry head .args .found)) all _ (now .inside) _ _ (head .loop .inv .0) _ _ _ refl (c .add-at .ensures .0) (now .next-is),
+      added-more (denote.Ref.now (entry head .args .sheet)) (denote.Ref.now (entry head .args .found)) all _ (now .inside) _ _ (head .loop .inv .1) _ _ _ (now .kw-is) (c .add-at .ensures .1) (now .next-is),
+    )
 
 enum-told : tie.Need-enum-told Inv-loop μ-loop
 enum-told c = search needs
@@ -91,8 +95,8 @@ enum-told c = search needs
 returns : tie.Need-returns Inv-loop μ-loop
 returns c =
     let head = c .before .before .before in
-    passed-all _ _ _ _ _ (head .loop .inv)
-    (at-end _ _ _ (entry head .pre .0) (c .before .before .read-record .ensures ∙ at-place head _ (words head .word .ensures)) (c .enum-told .given .1))
+    let done = at-end _ _ _ (entry head .pre .0) (c .before .before .read-record .ensures ∙ at-place head _ (words head .word .ensures)) (c .enum-told .given .1) in
+    (added-all _ _ _ _ (head .loop .inv .0) done, added-all _ _ _ _ (head .loop .inv .1) done)
 
 pub add-records-spec : {M : Type 1} → statement M
 add-records-spec =
@@ -108,7 +112,7 @@ add-records-spec =
     enum-known-read
     mul-slot
     element-copy-out-slot
-    add-record-requires
+    add-at-requires
     loop-less
     loop-again
     enum-told
