@@ -1,7 +1,7 @@
 -- Lines that stand in a draft's tables: before the first, and with one more.
 use Prim.Native.Nat.{ℕ, suc, _+_, _-_, _≤_, _<_, max}
 use mathlib.Core.Path.{_≡_, refl, sym, ap, _∙_}
-use mathlib.Core.Bool.{Bool, true, false, not, true≢false}
+use mathlib.Core.Bool.{Bool}
 use mathlib.Core.Logic.{_≢_, ⊎-elim}
 use mathlib.Core.List.{List, [], _∷_, _++_}
 use native.Mathlib.Nat.{max-zero}
@@ -10,8 +10,10 @@ use native.Mathlib.Decide.{ℕ-discrete}
 use lib.Dec.{ltb}
 use lib.ListN.{length, set, length-set, replicate, length-replicate, getD-replicate}
 use lib.Seq.{getD-set-same, getD-set-other}
-use borrow.Author.Tests.{eq-eqb, ltb-true, ltb-false, not-true, not-false}
+use borrow.Author.Tests.{eq-eqb, ltb-true, ltb-false}
+use Rattle.base.specs.Choice.{pick}
 use Rattle.base.specs.Words.{at}
+use Rattle.base.proofs.ChoiceLaws.{pick-true, pick-false}
 use Rattle.base.proofs.SumLaws.{below-suc}
 use Rattle.sheets.specs.Key.{holderOf}
 use Rattle.sheets.specs.Sheet.{count, keyAt, kwAt}
@@ -88,25 +90,47 @@ module _ (keys kws ranks : List ℕ) (n : ℕ) (l : List Line) (d : Drafted keys
 pub drafted-as : (keys kws ranks : List ℕ) (n : ℕ) (l m : List Line) → l ≡ m → Drafted keys kws ranks n l → Drafted keys kws ranks n m
 drafted-as keys kws ranks n l m e d = rw (← e) d
 
--- an old record, kept or not
-module _ (keys kws ranks : List ℕ) (n : ℕ) (key quantity : ℕ) (b : Bool) (e : b ≡ goesOn key) where
-  pub record-dropped : not b ≡ true → (l : List Line) → Drafted keys kws ranks n l → Drafted keys kws ranks n (l ++ keptOf key quantity)
-  record-dropped f l d =
-      either-way (λ (m : List Line). Drafted keys kws ranks n m) (goesOn key) l (nextLine key quantity)
-      (λ t. absurd (true≢false (sym t ∙ sym e ∙ not-true b f)))
-      (λ _. d)
+-- what is stored past the lines, and a rank that stays, leave a draft as it was
+drafted-still : (keys kws ranks : List ℕ) (n : ℕ) (l : List Line) → Drafted keys kws ranks n l → (key quantity rank h : ℕ) → h < 64 → rank ≡ at ranks h →
+    Drafted (set keys n key) (set kws n quantity) (set ranks h rank) n l
+drafted-still keys kws ranks n l d key quantity rank h low er =
+    record {
+      key-places = length-set keys n key ∙ d .key-places;
+      kw-places = length-set kws n quantity ∙ d .kw-places;
+      rank-places = length-set ranks h rank ∙ d .rank-places;
+      counted = d .counted;
+      key-is = λ j b. let ne : j ≢ n = omega arith in getD-set-other keys n j key 0 ne ∙ d .key-is j b;
+      kw-is = λ j b. let ne : j ≢ n = omega arith in getD-set-other kws n j quantity 0 ne ∙ d .kw-is j b;
+      rank-is = λ k b. rank-stays k b ∙ d .rank-is k b;
+    }
+  where
+    rank-stays : (k : ℕ) → k < 64 → at (set ranks h rank) k ≡ at ranks k
+    rank-stays k b =
+        elim (ℕ-discrete k h) [
+          | yes same ↦
+              ap (at (set ranks h rank)) same
+              ∙ getD-set-same ranks h rank 0 (omega (arith, d .rank-places))
+              ∙ er
+              ∙ ap (at ranks) (sym same)
+          | no other ↦ getD-set-other ranks h k rank 0 other
+        ]
 
-  pub record-kept : (packed rank h : ℕ) → not b ≡ false → n < places → h ≡ holderOf key →
-      packed ≡ lineKey (nextLine key 0) → rank ≡ max (at ranks h) (rankFor (holderOf key) (nextLine key 0)) →
-      (l : List Line) → Drafted keys kws ranks n l →
-      Drafted (set keys n packed) (set kws n quantity) (set ranks h rank) (n + 1) (l ++ keptOf key quantity)
-  record-kept packed rank h t room eh ek er l d =
-      either-way (λ (m : List Line). Drafted (set keys n packed) (set kws n quantity) (set ranks h rank) (n + 1) m) (goesOn key) l (nextLine key quantity)
-      (λ _.
-      rw eh
-      (drafted-more keys kws ranks n l d (nextLine key quantity) packed quantity rank room (omega arith) ek refl
-      (er ∙ ap (λ (k : ℕ). max (at ranks k) (rankFor (holderOf key) (nextLine key 0))) eh)))
-      (λ f. absurd (true≢false (sym (not-false b t) ∙ e ∙ f)))
+-- an old record, kept or not
+pub record-drafted : (keys kws ranks : List ℕ) (n key quantity : ℕ) (b : Bool) → b ≡ goesOn key → (packed rank h m : ℕ) → n < places → h ≡ holderOf key →
+    packed ≡ lineKey (nextLine key 0) → rank ≡ pick b (max (at ranks h) (rankFor (holderOf key) (nextLine key 0))) (at ranks h) → m ≡ pick b (n + 1) n →
+    (l : List Line) → Drafted keys kws ranks n l →
+    Drafted (set keys n packed) (set kws n quantity) (set ranks h rank) m (l ++ keptOf key quantity)
+record-drafted keys kws ranks n key quantity b e packed rank h m room eh ek er em l d =
+    either-way (λ (lines : List Line). Drafted (set keys n packed) (set kws n quantity) (set ranks h rank) m lines) (goesOn key) l (nextLine key quantity)
+    (λ t.
+    let higher : rank ≡ max (at ranks h) (rankFor (holderOf key) (nextLine key 0)) = er ∙ pick-true b _ _ (e ∙ t) in
+    rw (eh, em, pick-true b (n + 1) n (e ∙ t))
+    (drafted-more keys kws ranks n l d (nextLine key quantity) packed quantity rank room (omega arith) ek refl
+    (higher ∙ ap (λ (k : ℕ). max (at ranks k) (rankFor (holderOf key) (nextLine key 0))) eh)))
+    (λ f.
+    let low : h < 64 = omega arith in
+    rw (em, pick-false b (n + 1) n (e ∙ f))
+    (drafted-still keys kws ranks n l d packed quantity rank h low (er ∙ pick-false b _ _ (e ∙ f))))
 
 -- the bounds of a draft
 pub bounded-up : (ranks : List ℕ) (n m m′ : ℕ) → m ≤ m′ → Bounded ranks n m → Bounded ranks n m′

@@ -1,6 +1,7 @@
 pub mod KeyLaws
 pub mod LineLaws
 pub mod DraftLaws
+pub mod SpellLaws
 pub mod FitLaws
 pub mod CarryLaws
 pub mod LineSums

@@ -1,13 +1,14 @@
 -- The tables that lines are drafted into before a byte is written: keys and quantities in their order, and each holder's highest rank.
-use Prim.Native.Nat.{ℕ, _+_, _-_, _%_, _≤_, _<_}
+use Prim.Native.Nat.{ℕ, _+_, _-_, _*_, _%_, _≤_, _<_}
 use mathlib.Core.Path.{_≡_}
 use mathlib.Core.List.{List}
 use lib.Dec.{eqb, ltb}
-use lib.ListN.{length}
+use lib.ListN.{length, set}
 use Rattle.base.specs.Choice.{pick}
 use Rattle.base.specs.Words.{at}
 use Rattle.carrying.specs.Line.{Line, keyFrom, lineIn}
 use Rattle.carrying.specs.Lines.{highest}
+use Rattle.carrying.specs.NewSheet.{byteOf}
 
 -- the places of a draft: 1,024 old records and a lock for each of 32 · 48 pairs
 abbrev pub places : ℕ
@@ -45,3 +46,12 @@ draftWord I H n keys kws w =
     (pick (eqb w 2) n
     (pick (ltb w (3 + n)) (at keys (w - 3))
     (at kws (w - (3 + n))))))
+
+-- the bytes of a word, the lowest first, from byte b of a list on
+abbrev pub spelled : ℕ → ℕ → List ℕ → List ℕ
+spelled word b l =
+    set (set (set (set l b (byteOf word 0)) (b + 1) (byteOf word 1)) (b + 2) (byteOf word 2)) (b + 3) (byteOf word 3)
+
+-- f gives the bytes of the first n words of a table, from word `from` of a sheet on
+abbrev pub Spelling : (ℕ → ℕ) → List ℕ → ℕ → ℕ → Type 0
+Spelling f words from n = (k j : ℕ) → k < n → j < 4 → f (4 * (from + k) + j) ≡ byteOf (at words k) j

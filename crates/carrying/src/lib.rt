@@ -28,7 +28,7 @@ fn early_refusal(sheet: &[u8], state: &[u32]) -> u32
     ensures { λ r. ⌜ r ≡ earlyRefusal (now (sheet .entry)) (now (state .entry)) ⌝ }
 {
     let of_stage = call::whenever(call::not_open(state), 7);
-    let of_state = call::or_else(state::state_refusal(state), of_stage);
+    let of_state = call::or_else(orderly::state_refusal(state), of_stage);
     call::or_else(sheets::refusal::sheet_refusal(sheet), of_state)
 }
 

@@ -2,8 +2,9 @@
 ghost use mathlib.Core.Path.{_≡_};
 ghost use mathlib.Core.Bool.{false};
 ghost use mathlib.Core.List.{List, _++_};
-ghost use Prim.Native.Nat.{_<_, max};
+ghost use Prim.Native.Nat.{ℕ, _+_, _<_, max};
 ghost use lib.ListN.{length};
+ghost use Rattle.base.specs.Choice.{pick};
 ghost use Rattle.sheets.specs.Sheet.{count};
 ghost use Rattle.sheets.specs.Refusal.{badLength};
 ghost use Rattle.sheets.specs.Key.{holderOf};
@@ -36,7 +37,30 @@ fn raised(rank: u32, key: u32) -> u32
     other
 }
 
-// Drafts a record at a place if it goes on, and gives the place after it.
+// The higher of a rank and that of a New Use commitment, if it goes on.
+fn rank_after(on: bool, rank: u32, key: u32) -> u32
+    ensures { λ r. ⌜ r ≡ pick {A = ℕ} on (max rank (rankFor (holderOf key) (nextLine key 0))) rank ⌝ }
+{
+    let higher = raised(rank, key);
+    if on {
+        return higher;
+    }
+    rank
+}
+
+// The place after a record, if it goes on.
+fn place_after(on: bool, place: usize) -> usize
+    requires { ⌜ place < places ⌝ }
+    ensures { λ r. ⌜ r ≡ pick {A = ℕ} on (place + 1) place ⌝ }
+{
+    if on {
+        return place + 1;
+    }
+    place
+}
+
+// Drafts a record at a place, and gives the place after it: that of the next one, or the same if it
+// doesn't go on. Both ways do the same, since a branch would be taken at random.
 fn keep_record(
     key: u32,
     kw: u32,
@@ -49,14 +73,12 @@ fn keep_record(
     ensures { λ r. ⌜ ((l : List Line) → Drafted (now (keys .entry)) (now (kws .entry)) (now (ranks .entry)) place l
         → Drafted (now (keys .exit)) (now (kws .exit)) (now (ranks .exit)) r (l ++ keptOf key kw)) ⌝ }
 {
-    if !key::goes_on(key) {
-        return place;
-    }
+    let on = key::goes_on(key);
     keys[place] = key::next_key(key);
     kws[place] = kw;
     let holder = sheets::key::holder(key) as usize;
-    ranks[holder] = raised(ranks[holder], key);
-    place + 1
+    ranks[holder] = rank_after(on, ranks[holder], key);
+    place_after(on, place)
 }
 
 // Drafts what goes on of a sheet that number 1 lets pass, and gives the number of lines.

@@ -7,11 +7,13 @@ use Rattle.base.specs.Choice.{pick}
 use Rattle.base.specs.Sums.{sumTo}
 use Rattle.base.proofs.ChoiceLaws.{pick-by, sumTo-pick}
 use Rattle.base.proofs.SumLaws.{sumTo-same, sumTo-le, sumTo-zeros}
+use Rattle.interties.specs.Pairs.{atPair}
 use Rattle.interties.specs.Rule.{onIntertie, grantOn}
 use Rattle.state.specs.Layout.{interties, holders, unassignedOf, unplacedOf, pendingOf}
 use Rattle.state.proofs.OrderlyLaws.{Orderly}
 use Rattle.closing.specs.Weight.{weightOf}
 use Rattle.closing.specs.Close.{sharesOut, closeGrant, closeKw, grantedTo, grantedOn}
+use Rattle.closing.specs.Work.{Granted}
 use Rattle.closing.proofs.UniformLaws.{shared-kept}
 
 module _ (s : List ℕ) where
@@ -58,3 +60,11 @@ module _ (s : List ℕ) where
 
   pub granted-to-most : Orderly s → (h : ℕ) → h < holders s → grantedTo s h ≤ unplacedOf s h
   granted-to-most o h p = le-trans (granted-to-pending h p) (o .pending-most h p)
+
+-- so are the sums of a table of the grants
+module _ (s table : List ℕ) (g : Granted s table) where
+  pub table-on : (i : ℕ) → i < interties s → sumTo (holders s) (λ h. atPair table h i) ≤ unassignedOf s i
+  table-on i l = rw (sumTo-same (holders s) (λ h. atPair table h i) (λ h. closeGrant s h i) (λ h k. g .pairs h i k l)) (granted-on-most s i)
+
+  pub table-to : Orderly s → (h : ℕ) → h < holders s → sumTo (interties s) (λ i. atPair table h i) ≤ unplacedOf s h
+  table-to o h k = rw (sumTo-same (interties s) (λ i. atPair table h i) (λ i. closeGrant s h i) (λ i l. g .pairs h i k l)) (granted-to-most s o h k)

@@ -22,7 +22,7 @@ use Rattle.closing.specs.Weight.{weightOf}
 use Rattle.closing.specs.Close.{closeGrant, closeKw, closePasses}
 use Rattle.closing.specs.Work.{fillFrom, Granted}
 use Rattle.closing.proofs.UniformLaws.{uniform-grant, uniform-kw, uniform-passes}
-use Rattle.closing.proofs.TableLaws.{zeros, length-zeros, at-zeros, at-fillFrom, length-fillFrom}
+use Rattle.closing.proofs.TableLaws.{zeros, length-zeros, at-fillFrom, length-fillFrom}
 
 module _ (s : List ℕ) (o : Orderly s) (most : stageOf s ≤ 3) (pools claims weights table : List ℕ)
     (fit : Sized (interties s) (holders s) pools claims weights table)
@@ -55,21 +55,18 @@ module _ (s : List ℕ) (o : Orderly s) (most : stageOf s ≤ 3) (pools claims w
   pub table-is : length table ≡ 1536 → Granted s (out .output)
   table-is size = record { size = kept .size ∙ size; pairs = grant-is; small = kept .small }
 
--- words of the state that were added to a row of zeros
-pub read-row : (s first row : List ℕ) (r n : ℕ) → n ≤ length first → ((c : ℕ) → c < n → at first c ≡ 0) →
-    row ≡ fillFrom 0 n (λ c. at first (0 + c) + at s (place r c)) first → (c : ℕ) → c < n → at row c ≡ at s (place r c)
-read-row s first row r n room none e c l =
-    let f : ℕ → ℕ = λ c. at first (0 + c) + at s (place r c) in
-    let word : at row (0 + c) ≡ at first (0 + c) + at s (place r c) = rw e (at-fillFrom 0 f first n c l (omega arith)) in
-    let here : at row c ≡ at row (0 + c) = ap (at row) (sym (zero-add c)) in
-    let there : at first (0 + c) ≡ at first c = ap (at first) (zero-add c) in
-    omega (arith, none c l)
+-- words of the state that were read into a row
+pub read-words : (s first row : List ℕ) (r n : ℕ) → n ≤ length first → row ≡ fillFrom 0 n (λ c. at s (place r c)) first →
+    (c : ℕ) → c < n → at row c ≡ at s (place r c)
+read-words s first row r n room e c l =
+    let word : at row (0 + c) ≡ at s (place r c) = rw e (at-fillFrom 0 (λ c. at s (place r c)) first n c l (omega arith)) in
+    ap (at row) (sym (zero-add c)) ∙ word
 
 -- what the workers left is this closing's answer and its table of grants
 module _ (s : List ℕ) (o : Orderly s) (most : stageOf s ≤ 3) where
   pub pending-shared : (I H : ℕ) (pools claims weights table after : List ℕ) (r : Answer) → I ≡ interties s → H ≡ holders s →
-      pools ≡ fillFrom 0 I (λ c. at (zeros 48) (0 + c) + at s (place 104 c)) (zeros 48) →
-      ((h i : ℕ) → h < H → i < I → atPair claims h i ≡ atPair (zeros 1536) h i + at s (place (237 + h) i)) → 1536 ≤ length claims →
+      pools ≡ fillFrom 0 I (λ c. at s (place 104 c)) (zeros 48) →
+      ((h i : ℕ) → h < H → i < I → atPair claims h i ≡ at s (place (237 + h) i)) → 1536 ≤ length claims →
       weights ≡ fill (holders s) (weightOf s) (zeros 32) → length table ≡ 1536 →
       r ≡ shareOutEach I H pools claims weights table .answer → after ≡ shareOutEach I H pools claims weights table .output →
       (r ≡ granted (closeKw s) (closePasses s)) × Granted s after
@@ -78,19 +75,18 @@ module _ (s : List ℕ) (o : Orderly s) (most : stageOf s ≤ 3) where
       let low : holders s ≤ 32 = o .holders-most in
       let n : length (zeros 48) ≡ 48 = length-zeros 48 in
       let m : length (zeros 32) ≡ 32 = length-zeros 32 in
-      let pooled : pools ≡ fillFrom 0 (interties s) (λ c. at (zeros 48) (0 + c) + at s (place 104 c)) (zeros 48) = rw e at p in
+      let pooled : pools ≡ fillFrom 0 (interties s) (λ c. at s (place 104 c)) (zeros 48) = rw e at p in
       let pool : (i : ℕ) → i < interties s → at pools i ≡ unassignedOf s i =
-      read-row s (zeros 48) pools 104 (interties s) (omega arith) (λ i l. at-zeros 48 i (omega arith)) pooled in
+      read-words s (zeros 48) pools 104 (interties s) (omega arith) pooled in
       let claim : (h i : ℕ) → h < holders s → i < interties s → atPair claims h i ≡ pendingOf s h i =
-      λ h i k l.
-      omega (arith, c h i (rw f k) (rw e l), at-zeros 1536 (48 * h + i) (omega arith)) in
+      λ h i k l. c h i (rw f k) (rw e l) in
       let weight : (h : ℕ) → h < holders s → at weights h ≡ weightOf s h =
       λ h k. rw w (at-fill (holders s) (weightOf s) (zeros 32) h k (omega arith)) in
       let fit : Sized (interties s) (holders s) pools claims weights table =
       record {
         interties = few;
         holders = low;
-        pooled = omega (arith, ap length pooled, length-fillFrom 0 (λ c. at (zeros 48) (0 + c) + at s (place 104 c)) (zeros 48) (interties s));
+        pooled = omega (arith, ap length pooled, length-fillFrom 0 (λ c. at s (place 104 c)) (zeros 48) (interties s));
         weighed = omega (arith, ap length w, length-fill (holders s) (weightOf s) (zeros 32));
         claimed = size;
         room = omega arith;

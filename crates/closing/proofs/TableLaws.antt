@@ -10,7 +10,7 @@ use lib.ListN.{length, set, length-set, replicate, length-replicate, getD-replic
 use lib.Seq.{getD-set-same, getD-set-other}
 use Rattle.base.specs.Sums.{sumTo}
 use Rattle.base.specs.Words.{at, fill}
-use Rattle.base.proofs.SumLaws.{below-suc, sumTo-zero, sumTo-more}
+use Rattle.base.proofs.SumLaws.{below-suc, sumTo-zero, sumTo-more, sumTo-mono}
 use Rattle.base.proofs.WordLaws.{fill-suc, at-fill, length-fill}
 use Rattle.interties.specs.Pairs.{atPair}
 use Rattle.closing.specs.Work.{fillFrom}
@@ -58,10 +58,7 @@ module _ (from : ℕ) (f : ℕ → ℕ) (l : List ℕ) where
       getD-set-other (fillFrom from n f l) (from + n) p (f n) 0 other
       ∙ at-fillFrom-apart n p (⊎-elim (λ (b : p < from). inl b) (λ (b : from + suc n ≤ p). inr (omega arith)) apart)
 
-  -- a loop that writes: the place of this turn, the turn, and the end
-  pub fillFrom-place : (c : ℕ) {k : List ℕ} → k ≡ fillFrom from c f l → at k (from + c) ≡ at l (from + c)
-  fillFrom-place c e = rw e (at-fillFrom-apart c (from + c) (inr (le-refl (from + c))))
-
+  -- a loop that writes: a turn, and the end
   pub fillFrom-turn : (c : ℕ) {k : List ℕ} {x : ℕ} → k ≡ fillFrom from c f l → x ≡ f c → set k (from + c) x ≡ fillFrom from (c + 1) f l
   unfolding fillFrom
   fillFrom-turn c {k} {x} e t = rw (add-one c, e, t)
@@ -122,6 +119,10 @@ less-more start left c x f e h = omega (arith, sumTo-more c f)
 
 pub less-none : (start : ℕ) (f : ℕ → ℕ) → start ≡ start - sumTo 0 f
 less-none start f = omega (arith, sumTo-zero f)
+
+-- a number that is no less than some together has the next of them left
+pub next-within : (start n c : ℕ) (f : ℕ → ℕ) → sumTo n f ≤ start → c < n → f c ≤ start - sumTo c f
+next-within start n c f most l = omega (arith, sumTo-more c f, sumTo-mono (c + 1) n f (omega arith))
 
 -- words that are written after those that were filled
 pub fill-further : (from n : ℕ) (f g : ℕ → ℕ) (l : List ℕ) → ((c : ℕ) → c < n → g c ≡ f (from + c)) → fillFrom from n g (fill from f l) ≡ fill (from + n) f l

@@ -5,7 +5,7 @@ use mathlib.Core.List.{List}
 use lib.ListN.{length, set}
 use Rattle.base.specs.Words.{at}
 use Rattle.interties.specs.Pairs.{atPair}
-use Rattle.state.specs.Layout.{interties, holders, stageOf, unassignedOf, unplacedOf, placedOf}
+use Rattle.state.specs.Layout.{interties, holders, stageOf, unassignedOf, unplacedOf}
 use Rattle.state.specs.Orderly.{stateRefusal}
 use Rattle.closing.specs.Close.{closeGrant, grantedTo, grantedOn}
 
@@ -25,12 +25,9 @@ pub record Granted (s table : List ℕ) : Type 0 where
   pub pairs : (h i : ℕ) → h < holders s → i < interties s → atPair table h i ≡ closeGrant s h i
   pub small : (h i : ℕ) → h < holders s → i < interties s → atPair table h i ≤ 20000000
 
--- the numbers that are written into the state
-pub record Written (s unassigned unplaced placed : List ℕ) : Type 0 where
+-- the numbers that are written over two rows of the state
+pub record Written (s unassigned unplaced : List ℕ) : Type 0 where
   pub unassigned-size : 48 ≤ length unassigned
   pub unassigned-is : (i : ℕ) → i < interties s → at unassigned i ≡ unassignedOf s i - grantedOn s i
   pub unplaced-size : 32 ≤ length unplaced
   pub unplaced-is : (h : ℕ) → h < holders s → at unplaced h ≡ unplacedOf s h - grantedTo s h
-  pub placed-size : 1536 ≤ length placed
-  pub placed-is : (h i : ℕ) → h < holders s → i < interties s → atPair placed h i ≡ placedOf s h i + closeGrant s h i
-  pub placed-small : (h i : ℕ) → h < holders s → i < interties s → placedOf s h i + closeGrant s h i ≤ 960000000

@@ -29,7 +29,7 @@ pub fn close(state: &mut [u32], grants: &mut [u32]) -> Answer
     let mut granted = [0u64; 1536];
     let answer = sharing::share_out_pending(state, &mut granted);
     buffer::write_grants(state, &granted, grants);
-    applying::apply(state, &mut granted);
+    applying::apply(state, &granted);
     answer
 }
 
@@ -40,7 +40,7 @@ fn close_refusal(state: &[u32], grants: &[u32]) -> u32
     if short_grants(grants.len()) {
         return 5;
     }
-    let unfit = state::state_refusal(state);
+    let unfit = orderly::state_refusal(state);
     if unfit != 0 {
         return unfit;
     }

@@ -19,9 +19,9 @@ pub(super) fn share_out_pending(state: &[u32], table: &mut [u64]) -> Answer
     let interties = tables::intertie_count(state);
     let holders = tables::holder_count(state);
     let mut pools = [0u64; 48];
-    tables::add_row(state, layout::UNASSIGNED as usize, interties, &mut pools, 0);
+    tables::read_row(state, layout::UNASSIGNED as usize, interties, &mut pools, 0);
     let mut claims = [0u64; 1536];
-    tables::add_pairs(
+    tables::read_pairs(
         state,
         layout::PENDING as usize,
         holders,

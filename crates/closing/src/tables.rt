@@ -1,4 +1,4 @@
-// Tables of the pairs, with a row of 48 numbers for each holder: words of the state are added to their
+// Tables of the pairs, with a row of 48 numbers for each holder: words of the state are read into their
 // rows, and their rows are taken off others.
 use state::layout;
 use state::layout::ROW_WORDS;
@@ -23,63 +23,54 @@ pub(super) fn holder_count(state: &[u32]) -> usize
     state::word(state, layout::SIZES, layout::HOLDERS) as usize
 }
 
-// Adds the first words of a row of the state to the numbers of a table, from one of them on.
-pub(super) fn add_row(state: &[u32], row: usize, count: usize, table: &mut [u64], to: usize)
-    requires { ⌜ (16000 ≤ length (now state)) × (row < 333) × (count ≤ 48) × (to + count ≤ length (now table))
-        × ((c : ℕ) → c < count → at (now table) (to + c) ≤ 20000000) ⌝ }
-    ensures { λ _. ⌜ now (table .exit) ≡
-        fillFrom to count (λ (c : ℕ). at (now (table .entry)) (to + c) + at (now (state .entry)) (place row c)) (now (table .entry)) ⌝ }
+// Reads the first words of a row of the state into a table, from one of its numbers on.
+pub(super) fn read_row(state: &[u32], row: usize, count: usize, table: &mut [u64], to: usize)
+    requires { ⌜ (16000 ≤ length (now state)) × (row < 333) × (count ≤ 48) × (to + count ≤ length (now table)) ⌝ }
+    ensures { λ _. ⌜ now (table .exit) ≡ fillFrom to count (λ (c : ℕ). at (now (state .entry)) (place row c)) (now (table .entry)) ⌝ }
 {
     let first = ROW_WORDS * row;
     let mut column = 0;
     while column < count {
-        table[to + column] = table[to + column] + (state[first + column] as u64);
+        table[to + column] = state[first + column] as u64;
         column += 1;
     }
 }
 
-// Adds the words of a field of the pairs to a table.
-pub(super) fn add_pairs(
+// Reads the words of a field of the pairs into a table.
+pub(super) fn read_pairs(
     state: &[u32],
     field: usize,
     holders: usize,
     interties: usize,
     table: &mut [u64],
 )
-    requires { ⌜ (16000 ≤ length (now state)) × (field ≤ 300) × (holders ≤ 32) × (interties ≤ 48) × (1536 ≤ length (now table))
-        × ((h i : ℕ) → h < holders → i < interties → atPair (now table) h i ≤ 20000000) ⌝ }
-    ensures { λ _. ⌜ ((h i : ℕ) → h < holders → i < interties →
-        atPair (now (table .exit)) h i ≡ atPair (now (table .entry)) h i + at (now (state .entry)) (place (field + h) i)) ⌝ }
+    requires { ⌜ (16000 ≤ length (now state)) × (field ≤ 300) × (holders ≤ 32) × (interties ≤ 48) × (1536 ≤ length (now table)) ⌝ }
+    ensures { λ _. ⌜ ((h i : ℕ) → h < holders → i < interties → atPair (now (table .exit)) h i ≡ at (now (state .entry)) (place (field + h) i)) ⌝ }
 {
     let mut holder = 0;
     while holder < holders {
-        add_row(state, field + holder, interties, table, ROW_WORDS * holder);
+        read_row(state, field + holder, interties, table, ROW_WORDS * holder);
         holder += 1;
     }
 }
 
-// What a has above b, 0 if nothing.
-fn excess(a: u64, b: u64) -> u64
-    ensures { λ r. ⌜ r ≡ a - b ⌝ }
-{
-    if b < a { a - b } else { 0 }
-}
-
-// Takes the numbers of a table, from one of them on, off the first numbers of a row.
+// Takes the numbers of a table, from one of them on, off the first numbers of a row, which have as much.
 fn take_off(table: &[u64], from: usize, count: usize, row: &mut [u64])
-    requires { ⌜ (from + count ≤ length (now table)) × (count ≤ length (now row)) ⌝ }
+    requires { ⌜ (from + count ≤ length (now table)) × (count ≤ length (now row))
+        × ((c : ℕ) → c < count → at (now table) (from + c) ≤ at (now row) c) ⌝ }
     ensures { λ _. ⌜ now (row .exit) ≡ fill count (λ (c : ℕ). at (now (row .entry)) c - at (now (table .entry)) (from + c)) (now (row .entry)) ⌝ }
 {
     let mut c = 0;
     while c < count {
-        row[c] = excess(row[c], table[from + c]);
+        row[c] -= table[from + c];
         c += 1;
     }
 }
 
-// Takes what the holders have in a table off a row of the interties.
+// Takes what the holders have in a table off a row of the interties, which has as much.
 pub(super) fn take_off_holders(table: &[u64], holders: usize, interties: usize, row: &mut [u64])
-    requires { ⌜ (holders ≤ 32) × (interties ≤ 48) × (1536 ≤ length (now table)) × (interties ≤ length (now row)) ⌝ }
+    requires { ⌜ (holders ≤ 32) × (interties ≤ 48) × (1536 ≤ length (now table)) × (interties ≤ length (now row))
+        × ((i : ℕ) → i < interties → sumTo holders (λ (h : ℕ). atPair (now table) h i) ≤ at (now row) i) ⌝ }
     ensures { λ _. ⌜ ((i : ℕ) → i < interties →
         at (now (row .exit)) i ≡ at (now (row .entry)) i - sumTo holders (λ (h : ℕ). atPair (now (table .entry)) h i)) ⌝ }
 {
@@ -90,15 +81,15 @@ pub(super) fn take_off_holders(table: &[u64], holders: usize, interties: usize, 
     }
 }
 
-// What is left of a number once some numbers of a table, from one of them on, are taken off.
+// What is left of a number once some numbers of a table, from one of them on, which are no more, are taken off.
 pub(super) fn left_of(start: u64, table: &[u64], from: usize, count: usize) -> u64
-    requires { ⌜ from + count ≤ length (now table) ⌝ }
+    requires { ⌜ (from + count ≤ length (now table)) × (sumTo count (λ (c : ℕ). at (now table) (from + c)) ≤ start) ⌝ }
     ensures { λ r. ⌜ r ≡ start - sumTo count (λ (c : ℕ). at (now (table .entry)) (from + c)) ⌝ }
 {
     let mut left = start;
     let mut c = 0;
     while c < count {
-        left = excess(left, table[from + c]);
+        left -= table[from + c];
         c += 1;
     }
     left

@@ -45,7 +45,7 @@ pub fn lock(state: &mut [u32], holder: u32, intertie: u32, kw: u64, term: u32) -
 fn move_refusal(state: &[u32], giver: u32, taker: u32, intertie: u32, kw: u64) -> u32
     ensures { λ r. ⌜ r ≡ moveRefusal (now (state .entry)) giver taker intertie kw ⌝ }
 {
-    let unfit = state::state_refusal(state);
+    let unfit = orderly::state_refusal(state);
     if unfit != 0 {
         return unfit;
     }
@@ -68,7 +68,7 @@ fn move_refusal(state: &[u32], giver: u32, taker: u32, intertie: u32, kw: u64) -
 fn lock_refusal(state: &[u32], holder: u32, intertie: u32, kw: u64, term: u32) -> u32
     ensures { λ r. ⌜ r ≡ lockRefusal (now (state .entry)) holder intertie kw term ⌝ }
 {
-    let unfit = state::state_refusal(state);
+    let unfit = orderly::state_refusal(state);
     if unfit != 0 {
         return unfit;
     }

@@ -1,20 +1,21 @@
 -- The code's loops: over holders, a list and a column that are filled; over interties, a share-out on each.
 use Prim.Native.Nat.{ℕ, _+_, _≤_, _<_, min, zero-le}
 use mathlib.Core.Path.{_≡_, refl, sym, ap, _∙_}
-use mathlib.Core.Bool.{true}
+use mathlib.Core.Bool.{Bool, true, false}
 use mathlib.Core.List.{List}
 use native.Mathlib.Nat.{min-eq-left, min-eq-right}
 use native.Mathlib.Omega.{arith}
-use lib.Dec.{leb}
+use lib.Dec.{leb, eqb}
 use lib.ListN.{length, take, set, length-set}
 use borrow.Author.Tests.{leb-true}
+use Rattle.base.specs.Choice.{pick}
 use Rattle.base.specs.Sums.{sumTo, allTo}
 use Rattle.base.specs.Words.{at, tab, fill}
-use Rattle.base.specs.Answers.{granted}
+use Rattle.base.specs.Answers.{refused, granted}
 use Rattle.base.specs.declared.Answer.{Answer}
 use Rattle.base.proofs.SumLaws.{sumTo-zero, sumTo-more, sumTo-mono, sumTo-term, allTo-each}
 use Rattle.base.proofs.WordLaws.{length-tab, at-tab, fill-zero, fill-turn, fill-whole}
-use Rattle.share_out.specs.Rule.{Outcome, shareOut}
+use Rattle.share_out.specs.Rule.{Outcome, shared, unfitLengths, unfitNumbers, sharedAnswer, shareOut}
 use Rattle.interties.specs.Pairs.{place, atPair, column, fillColumn, fillPairs}
 use Rattle.interties.specs.Rule.{amongHolders, onIntertie, grantOn, kwOver, passesOver, shareOutEach}
 use Rattle.interties.specs.Fit.{Sized, SharedOn}
@@ -71,19 +72,56 @@ module _ (i n : ℕ) (f : ℕ → ℕ) (first : List ℕ) where
       let end : h ≡ n = omega (arith, s .inside) in
       s .written ∙ ap (λ k. fillColumn i k f first) end
 
--- claims that are gathered, the first weights and room that is cleared are what the definition shares out over, and its output is scattered
-pub shared-on : (i H : ℕ) (pools claims weights claimed empty output grants after : List ℕ) (r : Answer) → H ≤ length weights →
-    claimed ≡ column claims H i → empty ≡ tab H (λ h. 0) →
-    (r ≡ shareOut (at pools i) claimed (take (length claimed) weights) empty .answer) × (output ≡ shareOut (at pools i) claimed (take (length claimed) weights) empty .output) →
-    after ≡ fillColumn i (length output) (at output) grants → SharedOn i H pools claims weights grants r after
+-- what a share-out answers and leaves, by its two refusals
+abbrev byRefusal : Bool → Bool → Answer → List ℕ → List ℕ → Outcome
+byRefusal five nine a output grants =
+    pick five (record { answer = refused 5; output = output })
+    (pick nine (record { answer = refused 9; output = output }) (record { answer = a; output = grants }))
+
+settled-by : (five nine : Bool) (a : Answer) (output empty grants : List ℕ) → a .refusal ≡ 0 →
+    (byRefusal five nine a output grants .answer ≡ byRefusal five nine a empty grants .answer)
+    × (pick (eqb (byRefusal five nine a output grants .answer .refusal) 0) (byRefusal five nine a output grants .output) empty
+    ≡ byRefusal five nine a empty grants .output)
+settled-by true nine a output empty grants e = (refl, refl)
+settled-by false true a output empty grants e = (refl, refl)
+settled-by false false a output empty grants e = (refl, rw e refl)
+
+-- a share-out over any output that is cleared where it is refused is one over an empty output
+settled : (pool : ℕ) (claims weights output empty : List ℕ) → length output ≡ length claims → length empty ≡ length claims →
+    (shareOut pool claims weights output .answer ≡ shareOut pool claims weights empty .answer)
+    × (pick (eqb (shareOut pool claims weights output .answer .refusal) 0) (shareOut pool claims weights output .output) empty
+    ≡ shareOut pool claims weights empty .output)
+unfolding shareOut sharedAnswer
+settled pool claims weights output empty n m =
+    let g : ℕ → ℕ = at (shared pool claims weights .grants) in
+    let whole : fill (length claims) g output ≡ fill (length claims) g empty = fill-whole (length claims) g output n ∙ sym (fill-whole (length claims) g empty m) in
+    let size : length output ≡ length empty = n ∙ sym m in
+    rw (whole, size)
+    (settled-by (unfitLengths (length claims) (length weights) (length empty)) (unfitNumbers pool claims weights) (sharedAnswer pool claims weights) output empty
+    (fill (length claims) g empty) refl)
+
+-- claims that are gathered and the first weights are what the definition shares out over, and its output is scattered
+pub shared-on : (i H : ℕ) (pools claims weights claimed before output after-it grants after : List ℕ) (r : Answer) → H ≤ length weights →
+    claimed ≡ column claims H i → length before ≡ H → length output ≡ H →
+    (r ≡ shareOut (at pools i) claimed (take (length claimed) weights) before .answer) × (output ≡ shareOut (at pools i) claimed (take (length claimed) weights) before .output) →
+    after-it ≡ pick (eqb (r .refusal) 0) output (tab (length output) (λ h. 0)) →
+    after ≡ fillColumn i (length after-it) (at after-it) grants → SharedOn i H pools claims weights grants r after
 unfolding amongHolders
-shared-on i H pools claims weights claimed empty output grants after r enough c e o a =
+shared-on i H pools claims weights claimed before output after-it grants after r enough c room size o f a =
     let n : length claimed ≡ H = ap (λ l. length l) c ∙ length-tab H (λ h. atPair claims h i) in
+    let empty : List ℕ = tab H (λ h. 0) in
+    let made : Outcome = shareOut (at pools i) claimed (take (length claimed) weights) before in
+    let s = settled (at pools i) claimed (take (length claimed) weights) before empty (room ∙ sym n) (length-tab H (λ h. 0) ∙ sym n) in
     let same : shareOut (at pools i) claimed (take (length claimed) weights) empty ≡ onIntertie H (at pools) (atPair claims) (at weights) i =
-    rw (n, take-tab H weights enough, c, e) in
-    let out : output ≡ onIntertie H (at pools) (atPair claims) (at weights) i .output = o .1 ∙ ap (λ (r : Outcome). r .output) same in
-    let m : length output ≡ H = ap (λ l. length l) out ∙ kept-on H (at pools) (atPair claims) (at weights) i .size in
-    record { answer = o .0 ∙ ap (λ (r : Outcome). r .answer) same; column = a ∙ rw (m, out) }
+    rw (n, take-tab H weights enough, c) in
+    let cleared : after-it ≡ pick (eqb (r .refusal) 0) output empty = rw size at f in
+    let out : after-it ≡ onIntertie H (at pools) (atPair claims) (at weights) i .output =
+    cleared
+    ∙ ap (λ (x : Answer). pick (eqb (x .refusal) 0) output empty) (o .0)
+    ∙ ap (λ (l : List ℕ). pick (eqb (made .answer .refusal) 0) l empty) (o .1)
+    ∙ s .1 ∙ ap (λ (x : Outcome). x .output) same in
+    let m : length after-it ≡ H = ap (λ l. length l) out ∙ kept-on H (at pools) (atPair claims) (at weights) i .size in
+    record { answer = o .0 ∙ s .0 ∙ ap (λ (x : Outcome). x .answer) same; column = a ∙ rw (m, out) }
 
 -- after h of n claims, together still within the pool
 pub record Claiming (n pool : ℕ) (f : ℕ → ℕ) (total h : ℕ) : Type 0 where

@@ -2,8 +2,9 @@
 use base::Answer;
 ghost use mathlib.Core.Path.{_≡_};
 ghost use Prim.Native.Nat.{_+_, _≤_, min};
-ghost use lib.Dec.{leb};
+ghost use lib.Dec.{leb, eqb};
 ghost use lib.ListN.{length};
+ghost use Rattle.base.specs.Choice.{pick};
 ghost use Rattle.base.specs.Sums.{sumTo, allTo};
 ghost use Rattle.base.specs.Words.{at, tab};
 ghost use Rattle.interties.specs.Pairs.{atPair, column, fillColumn};
@@ -60,6 +61,15 @@ fn clear(words: &mut [u64])
     while h < words.len() {
         words[h] = 0;
         h += 1;
+    }
+}
+
+// Clears the output of a share-out that was refused, which has left it as it was.
+fn settle(refusal: u32, output: &mut [u64])
+    ensures { λ _. ⌜ now (output .exit) ≡ pick (eqb refusal 0) (now (output .entry)) (tab (length (now (output .entry))) (λ h. 0)) ⌝ }
+{
+    if refusal != 0 {
+        clear(output);
     }
 }
 
@@ -133,9 +143,9 @@ fn share_out_gathered(
     ensures { λ r. ⌜ SharedOn intertie (length (now (claimed .entry))) (now (pools .entry)) (now (claims .entry)) (now (weights .entry)) (now (grants .entry)) r (now (grants .exit)) ⌝ }
 {
     gather(claims, intertie, claimed);
-    clear(output);
     let holders = claimed.len();
     let answer = share_out::share_out(pools[intertie], claimed, &weights[..holders], output);
+    settle(answer.refusal, output);
     scatter(output, intertie, grants);
     answer
 }

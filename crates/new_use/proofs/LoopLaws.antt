@@ -7,7 +7,8 @@ use lib.ListN.{length}
 use Rattle.base.specs.Words.{at, tab}
 use Rattle.base.proofs.WordLaws.{length-tab}
 use Rattle.new_use.specs.NewUse.{NewUse, nextRank, afterRanks, beforeRanks, newUse}
-use Rattle.new_use.proofs.RankLaws.{afterRanks-zero, afterRanks-more}
+use Rattle.new_use.specs.Used.{Used}
+use Rattle.new_use.proofs.RankLaws.{afterRanks-zero, afterRanks-more, afterRanks-past}
 use Rattle.new_use.proofs.Promise.{Promise, promise-after}
 
 -- a cleared list has as many places as before
@@ -38,9 +39,10 @@ module _ (kw interties : List ℕ) (allowance : ℕ) (cover : List ℕ) (count r
       ranked next (r + 1) (omega arith)
       (afterRanks-more kw interties r (beforeRanks allowance cover count) ∙ rw (k .reached, ← i) e)
 
-  pub ranked-all : (s : NewUse) (r : ℕ) → Ranked kw interties allowance cover count ranks s r → ranks ≤ r → ranks ≡ min (length kw) (length interties) →
+  pub ranked-all : (s : NewUse) (r : ℕ) → Ranked kw interties allowance cover count ranks s r → ranks ≤ r → Used kw (min (length kw) (length interties)) ranks →
       newUse kw interties allowance cover count ≡ s
   unfolding newUse
-  ranked-all s r k l e =
-      let end : min (length kw) (length interties) ≡ r = omega (arith, k .inside) in
-      rw end (k .reached)
+  ranked-all s r k l u =
+      let end : ranks ≡ r = omega (arith, k .inside) in
+      afterRanks-past kw interties ranks (min (length kw) (length interties)) (beforeRanks allowance cover count) (u .within) (u .idle)
+      ∙ ap (λ n. afterRanks kw interties n (beforeRanks allowance cover count)) end ∙ k .reached

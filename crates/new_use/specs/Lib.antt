@@ -1,1 +1,2 @@
 pub mod NewUse
+pub mod Used

@@ -1,10 +1,12 @@
 // The New Use commitments of one holder: covered first, then cut to its allowance, by rising rank
 // (document 01, Step 4b).
 ghost use mathlib.Core.Path.{_≡_};
-ghost use Prim.Native.Nat.{_+_, _-_, _^_, _<_, min};
+ghost use mathlib.Core.Bool.{true};
+ghost use Prim.Native.Nat.{_+_, _-_, _^_, _≤_, _<_, min};
 ghost use lib.ListN.{length, set};
 ghost use Rattle.base.specs.Words.{at, tab};
 ghost use Rattle.new_use.specs.NewUse.{nextRank, newUse};
+ghost use Rattle.new_use.specs.Used.{Zeros, Used};
 
 // The smaller of two numbers.
 fn smaller(a: u64, b: u64) -> u64
@@ -87,6 +89,38 @@ fn keep_rank(kw: u64, intertie: usize, allowance: u64, cover: &mut [u64], kept: 
     use_allowance(rest, intertie, allowance, kept)
 }
 
+// Whether sixteen numbers, from one of them on, are all 0.
+fn sixteen_zeros(numbers: &[u64], from: usize) -> bool
+    requires { ⌜ from + 16 ≤ length (now numbers) ⌝ }
+    ensures { λ r. ⌜ (r ≡ true → Zeros (now (numbers .entry)) from 16) ⌝ }
+{
+    let mut bits = 0;
+    let mut i = 0;
+    while i < 16 {
+        bits = bits | numbers[from + i];
+        i += 1;
+    }
+    bits == 0
+}
+
+// How many of the first ranks are to be gone through: past them, in sixteens, none has kW.
+fn used_ranks(kw: &[u64], ranks: usize) -> usize
+    requires { ⌜ ranks ≤ length (now kw) ⌝ }
+    ensures { λ r. ⌜ Used (now (kw .entry)) ranks r ⌝ }
+{
+    let mut used = ranks;
+    loop {
+        if used < 16 {
+            break;
+        }
+        if !sixteen_zeros(kw, used - 16) {
+            break;
+        }
+        used -= 16;
+    }
+    used
+}
+
 // Keeps a holder's New Use by rising rank: writes into `kept` the kW that stay on each intertie,
 // leaves in `cover` what isn't used, and hands back the allowance left. The record of rank r has
 // its kW and its intertie at place r.
@@ -101,9 +135,10 @@ pub fn keep_new_use(
 {
     clear(kept);
     let ranks = shorter(kw.len(), interties.len());
+    let used = used_ranks(kw, ranks);
     let mut left = allowance;
     let mut r = 0;
-    while r < ranks {
+    while r < used {
         left = keep_rank(kw[r], place(interties[r]), left, cover, kept);
         r += 1;
     }

@@ -1,12 +1,6 @@
 pub mod OpenedLaws
 pub mod StartLaws
-pub mod VectorLaws
 pub mod FigureLaws
-pub mod PartLaws
-pub mod ClaimLaws
-pub mod ReserveLaws
-pub mod StoreLaws
-pub mod YearLaws
 pub mod WriteLaws
 pub mod OpenLaws
 pub mod SameLaws

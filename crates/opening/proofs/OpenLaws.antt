@@ -1,116 +1,192 @@
--- The steps one after the other: what `open_year` hands from each to the next, and what it leaves.
+-- The steps one after the other: what `carry_out` hands from each to the next, and what it leaves.
 use Prim.Native.Nat.{ℕ, _+_, _-_, _≤_, _<_}
 use mathlib.Core.Path.{_≡_, refl, sym, ap, _∙_}
-use mathlib.Core.List.{List}
+use mathlib.Core.Bool.{true, _&&_}
+use mathlib.Core.List.{List, _++_}
 use native.Mathlib.Omega.{arith}
-use lib.ListN.{length, take, replicate, length-replicate}
-use lib.Seq.{getD-take, length-take-le}
-use borrow.Rule.Slice.PartMut.{midOf, mid-len}
-use Rattle.base.specs.Words.{at, tab}
-use Rattle.base.proofs.WordLaws.{length-tab}
+use lib.ListN.{length, take, drop, replicate, length-replicate, List·getD-append}
+use lib.Seq.{length-take-le}
+use lib.Dec.{leb}
+use borrow.Author.Tests.{le-leb}
+use Rattle.base.specs.Sums.{sumTo}
+use Rattle.base.specs.Words.{at, tab, fill}
+use Rattle.base.proofs.ChoiceLaws.{pick-true, and-both}
+use Rattle.base.proofs.SumLaws.{sumTo-same, sumTo-add}
+use Rattle.base.proofs.WordLaws.{at-tab, length-tab, tab-same, at-fill}
+use Rattle.state.specs.Layout.{stateWords}
+use Rattle.interties.specs.Pairs.{fillPairs}
+use Rattle.interties.proofs.PairLaws.{length-fillPairs, at-fillPairs}
+use Rattle.sheets.specs.Tables.{existingSlot, loadShareSlot}
+use Rattle.step5.specs.Shares.{step5Shares}
 use Rattle.step5.proofs.Promise.{promise}
 use Rattle.steps.specs.Inputs.{Inputs}
 use Rattle.steps.specs.Tables.{ofTables}
 use Rattle.steps.specs.Valid.{Valid}
 use Rattle.steps.specs.Step2.{availableTotal}
-use Rattle.opening.specs.Figures.{heldFrom, HeldGiven, HeldTaken}
+use Rattle.steps.specs.Step4a.{preRaGranted}
+use Rattle.steps.specs.Step4b.{newUseGranted}
+use Rattle.steps.specs.Step5to7.{heldOn, held, step5Share, step7Total, unassigned}
+use Rattle.steps.proofs.BoundLaws.{total-most, held-total, held-on-most}
+use Rattle.reserving.specs.Vectors.{pairAt, Row, Pairs}
+use Rattle.reserving.specs.Reserved.{Outcome, reserved}
+use Rattle.reserving.proofs.StepLaws.{InRange, tables-fit, reserved-is}
+use Rattle.writing.specs.Write.{fitSizes, written}
+use Rattle.opening.specs.Figures.{KwTables, heldFrom, HeldGiven, HeldTaken}
 use Rattle.opening.specs.Opened.{openedState}
-use Rattle.opening.specs.Write.{StateRows, stateWritten}
-use Rattle.opening.specs.Year.{TablesGiven, ReservedAll, YearGiven}
-use Rattle.opening.proofs.PartLaws.{at-mid}
-use Rattle.opening.proofs.YearLaws.{held-given, held-row, share-row, total-row}
-use Rattle.opening.proofs.WriteLaws.{Given, state-rows, opened-written}
-
-module _ (state kw ties pools₀ loads₀ quantities₀ existing₀ preRa₀ newUse₀ held₀ shares₀ totals₀ : List ℕ)
-    (g : YearGiven state kw ties pools₀ loads₀ quantities₀ existing₀ preRa₀ newUse₀ held₀ shares₀ totals₀) where
-  abbrev y : Inputs
-  y = ofTables (length pools₀) (length loads₀) kw ties
-
-  -- the limits and the rows past them lie in the table
-  pub past-limits : 64 ≤ length kw
-  past-limits = omega (arith, g .tables .kw-size)
-
-  module _ (pools loads existing preRa newUse : List ℕ) (total : ℕ) (r : ReservedAll y pools loads existing preRa newUse total)
-      (pools-size : length pools ≡ length pools₀) (loads-size : length loads ≡ length loads₀)
-      (existing-size : length existing ≡ length existing₀) (pre-ra-size : length preRa ≡ length preRa₀) (new-use-size : length newUse ≡ length newUse₀) where
-    pub limits-inside : length pools ≤ length kw
-    limits-inside = omega (arith, g .tables .valid .interties-most, g .tables .kw-size)
-
-    pub five-given : HeldGiven total (length pools) loads existing preRa newUse held₀ shares₀ totals₀
-    five-given =
-        held-given y (g .tables .valid) pools loads existing preRa newUse total r pools-size loads-size
-        (existing-size ∙ g .tables .existing-size) (pre-ra-size ∙ g .tables .pre-ra-size) (new-use-size ∙ g .tables .new-use-size) held₀ shares₀ totals₀
-        (g .held-room ∙ sym loads-size) (g .shares-room ∙ sym loads-size) (g .totals-room ∙ sym loads-size)
-
-    module _ (holds shares totals : List ℕ) (t : HeldTaken total (length pools) loads existing preRa newUse holds shares totals) where
-      holds-size : length holds ≡ length loads
-      holds-size = ap length (t .hold) ∙ length-tab (length loads) (heldFrom (length pools) existing preRa newUse)
-
-      rows-given : Given y (take (length pools) kw) (midOf 64 (length kw - 64) kw) loads shares totals holds existing preRa newUse pools
-      rows-given =
-          let v = g .tables .valid in
-          let few : length pools₀ ≤ 48 = v .interties-most in
-          let wide : length kw ≡ 12481 = g .tables .kw-size in
-          let e = existing-size ∙ g .tables .existing-size in
-          let p = pre-ra-size ∙ g .tables .pre-ra-size in
-          let n = new-use-size ∙ g .tables .new-use-size in
-          record {
-            limits-size = length-take-le (length pools) kw limits-inside ∙ pools-size;
-            outside-size = omega (arith, mid-len 64 (length kw) kw (omega arith));
-            loads-size = loads-size;
-            shares-size = ap length (t .share) ∙ promise total holds loads .size ∙ holds-size ∙ loads-size;
-            totals-size = ap length (t .step7) ∙ length-tab (length loads) (λ h. at holds h + at shares h) ∙ loads-size;
-            holds-size = holds-size ∙ loads-size;
-            left-size = pools-size;
-            existing-size = e;
-            pre-ra-size = p;
-            new-use-size = n;
-            limit = λ i l. getD-take (length pools) kw i 0 (omega arith);
-            out = λ i l. at-mid 64 (length kw - 64) kw i (omega arith);
-            load = r .load;
-            share = share-row y v pools loads existing preRa newUse total r pools-size loads-size e p n holds shares totals t;
-            total = total-row y v pools loads existing preRa newUse total r pools-size loads-size e p n holds shares totals t;
-            hold = held-row y v pools loads existing preRa newUse total r pools-size loads-size e p n holds shares totals t;
-            exist = r .exist;
-            granted = r .granted;
-            kept = r .kept;
-            remain = r .left;
-          }
-
-      pub write-given : StateRows state (take (length pools) kw) (midOf 64 (length kw - 64) kw) loads shares totals holds existing preRa newUse pools
-      write-given = state-rows y _ _ loads shares totals holds existing preRa newUse pools rows-given state (g .tables .valid) (g .long)
-
-      pub year-opened : (after : List ℕ) →
-          after ≡ stateWritten (take (length pools) kw) (midOf 64 (length kw - 64) kw) loads shares totals holds existing preRa newUse pools state →
-          after ≡ openedState y state
-      year-opened after e = e ∙ opened-written y _ _ loads shares totals holds existing preRa newUse pools rows-given state
+use Rattle.opening.proofs.WriteLaws.{Given, opened-written}
 
 -- `carry_out` lends the first numbers of its own rows
 pub front-size : (n size : ℕ) → n ≤ size → length {A = ℕ} (take n (replicate size 0)) ≡ n
 front-size n size few = length-take-le n (replicate size 0) (omega (arith, length-replicate {A = ℕ} size 0))
 
-module _ (I H : ℕ) (kw ties state : List ℕ) (v : Valid (ofTables I H kw ties)) (kw-size : length kw ≡ 12481) (ties-size : length ties ≡ 12481) (long : 16000 ≤ length state) where
-  pub lent-given : YearGiven state kw ties (take I (replicate 48 0)) (take H (replicate 32 0)) (take H (replicate 32 0))
-      (replicate 1536 0) (replicate 1536 0) (replicate 1536 0) (take H (replicate 32 0)) (take H (replicate 32 0)) (take H (replicate 32 0))
-  lent-given =
-      record {
-        tables = record {
-          valid = rw (front-size I 48 (v .interties-most), front-size H 32 (v .holders-most)) v;
-          each = refl;
-          kw-size = kw-size;
-          ties-size = ties-size;
-          existing-size = length-replicate {A = ℕ} 1536 0;
-          pre-ra-size = length-replicate {A = ℕ} 1536 0;
-          new-use-size = length-replicate {A = ℕ} 1536 0;
-        };
-        long = long;
-        held-room = refl;
-        shares-room = refl;
-        totals-room = refl;
-      }
+module _ (kw ties : List ℕ) (I H : ℕ) (v : Valid (ofTables I H kw ties)) (kw-size : length kw ≡ 12481) where
+  abbrev y : Inputs
+  y = ofTables I H kw ties
 
-  pub lent-opened : (total : ℕ) (after : List ℕ) →
-      (total ≡ availableTotal (ofTables (length {A = ℕ} (take I (replicate 48 0))) (length {A = ℕ} (take H (replicate 32 0))) kw ties))
-      × (after ≡ openedState (ofTables (length {A = ℕ} (take I (replicate 48 0))) (length {A = ℕ} (take H (replicate 32 0))) kw ties) state) →
-      (total ≡ availableTotal (ofTables I H kw ties)) × (after ≡ openedState (ofTables I H kw ties) state)
-  lent-opened total after e = rw (front-size I 48 (v .interties-most), front-size H 32 (v .holders-most)) at e
+  in-range : InRange kw I H
+  in-range = record { few = v .interties-most; small = v .holders-most; limits = v .limit-most; load-shares = v .load-share-most }
+
+  -- what Steps 2 to 4b leave
+  module _ (left preRa newUse : List ℕ) (total : ℕ)
+      (e : record { total = total; left = left; preRa = preRa; newUse = newUse } ≡ reserved kw ties I H (replicate 48 0) (replicate 1536 0) (replicate 1536 0)) where
+    -- that is what the steps give
+    abbrev given-by-steps : Outcome
+    given-by-steps =
+        record {
+          total = availableTotal y;
+          left = fill I (unassigned y) (replicate 48 0);
+          preRa = fillPairs I H (preRaGranted y) (replicate 1536 0);
+          newUse = fillPairs I H (newUseGranted y) (replicate 1536 0);
+        }
+
+    done : record { total = total; left = left; preRa = preRa; newUse = newUse } ≡ given-by-steps
+    done = e ∙ reserved-is kw ties I H (replicate 48 0) (replicate 1536 0) (replicate 1536 0) (tables-fit kw I H in-range)
+
+    pub total-is : total ≡ availableTotal y
+    total-is = ap (λ (o : Outcome). o .total) done
+
+    remain : Row I left (unassigned y)
+    remain i l =
+        ap (λ (o : Outcome). at (o .left) i) done
+        ∙ at-fill I (unassigned y) (replicate 48 0) i l (omega (arith, v .interties-most, length-replicate {A = ℕ} 48 0))
+
+    granted : Pairs H I preRa (preRaGranted y)
+    granted h i k l =
+        ap (λ (o : Outcome). at (o .preRa) (pairAt h i)) done
+        ∙ at-fillPairs H (preRaGranted y) (replicate 1536 0) I h i k l (v .holders-most) (v .interties-most) (omega (arith, length-replicate {A = ℕ} 1536 0))
+
+    kept : Pairs H I newUse (newUseGranted y)
+    kept h i k l =
+        ap (λ (o : Outcome). at (o .newUse) (pairAt h i)) done
+        ∙ at-fillPairs H (newUseGranted y) (replicate 1536 0) I h i k l (v .holders-most) (v .interties-most) (omega (arith, length-replicate {A = ℕ} 1536 0))
+
+    pub pre-ra-size : length preRa ≡ 1536
+    pre-ra-size = ap (λ (o : Outcome). length (o .preRa)) done ∙ length-fillPairs H (preRaGranted y) (replicate 1536 0) I ∙ length-replicate {A = ℕ} 1536 0
+
+    pub new-use-size : length newUse ≡ 1536
+    new-use-size = ap (λ (o : Outcome). length (o .newUse)) done ∙ length-fillPairs H (newUseGranted y) (replicate 1536 0) I ∙ length-replicate {A = ℕ} 1536 0
+
+    -- E, P and N of a pair are together what it holds
+    pair-kw : (h i : ℕ) → h < H → i < I → at kw (existingSlot h i) + at preRa (pairAt h i) + at newUse (pairAt h i) ≡ heldOn y h i
+    unfolding heldOn
+    pair-kw h i k l = rw (granted h i k l, kept h i k l) refl
+
+    pair-most : (h i : ℕ) → h < H → i < I → at kw (existingSlot h i) + at preRa (pairAt h i) + at newUse (pairAt h i) ≤ 20000000
+    pair-most h i k l = omega (arith, pair-kw h i k l, held-on-most y v h i k l)
+
+    held-is : (h : ℕ) → h < H → heldFrom I kw preRa newUse h ≡ held y h
+    unfolding held
+    held-is h k =
+        let E : ℕ → ℕ = λ i. at kw (existingSlot h i) in
+        let P : ℕ → ℕ = λ i. at preRa (pairAt h i) in
+        let N : ℕ → ℕ = λ i. at newUse (pairAt h i) in
+        let parts : sumTo I (λ i. E i + P i + N i) ≡ sumTo I E + sumTo I P + sumTo I N =
+        sumTo-add I (λ i. E i + P i) N ∙ ap (λ n. n + sumTo I N) (sumTo-add I E P) in
+        sym parts ∙ sumTo-same I _ _ (λ i l. pair-kw h i k l)
+
+    held-sum : sumTo H (heldFrom I kw preRa newUse) ≤ total
+    held-sum = omega (arith, sumTo-same H (heldFrom I kw preRa newUse) (held y) held-is, held-total y v, total-is)
+
+    -- what Steps 5 to 7 are handed
+    tables : (n : ℕ) → n ≡ H → KwTables I n kw preRa newUse
+    tables n same =
+        record {
+          few = v .interties-most;
+          small = omega (arith, v .holders-most);
+          kw-size = kw-size;
+          pre-ra-size = pre-ra-size;
+          new-use-size = new-use-size;
+          existing-most = λ h i k l. omega (arith, pair-most h i (omega arith) l);
+          pre-ra-most = λ h i k l. omega (arith, pair-most h i (omega arith) l);
+          new-use-most = λ h i k l. omega (arith, pair-most h i (omega arith) l);
+        }
+
+    pub held-given : HeldGiven total kw I preRa newUse (take H (replicate 32 0)) (take H (replicate 32 0)) (take H (replicate 32 0))
+    held-given =
+        let size : length {A = ℕ} (take H (replicate 32 0)) ≡ H = front-size H 32 (v .holders-most) in
+        record {
+          tables = tables _ size;
+          total-most = omega (arith, total-is, total-most y v);
+          load-shares = λ h l. v .load-share-most h (omega arith);
+          within = rw size held-sum;
+          shares-room = refl;
+          totals-room = refl;
+        }
+
+    -- what they leave, and the words that are written of it
+    module _ (holds shares totals : List ℕ) (taken : HeldTaken total kw I (length {A = ℕ} (take H (replicate 32 0))) preRa newUse holds shares totals) where
+      t : HeldTaken total kw I H preRa newUse holds shares totals
+      t = rw (front-size H 32 (v .holders-most)) at taken
+
+      holds-are : holds ≡ tab H (held y)
+      holds-are = t .hold ∙ tab-same H (heldFrom I kw preRa newUse) (held y) held-is
+
+      hold-row : Row H holds (held y)
+      hold-row h l = ap (λ m. at m h) holds-are ∙ at-tab H (held y) h l
+
+      share-row : Row H shares (step5Share y)
+      unfolding step5Share
+      share-row h l =
+          ap (λ m. at m h) (t .share)
+          ∙ ap (λ (n : ℕ). at (step5Shares n holds (tab H (y .loadShare))) h) total-is
+          ∙ ap (λ m. at (step5Shares (availableTotal y) m (tab H (y .loadShare))) h) holds-are
+
+      total-row : Row H totals (step7Total y)
+      unfolding step7Total
+      total-row h l =
+          ap (λ m. at m h) (t .step7) ∙ at-tab H (λ h. at holds h + at shares h) h l
+          ∙ ap (λ n. n + at shares h) (hold-row h l) ∙ ap (λ n. held y h + n) (share-row h l)
+
+      holds-size : length holds ≡ H
+      holds-size = ap length holds-are ∙ length-tab H (held y)
+
+      shares-size : length shares ≡ H
+      shares-size = ap length (t .share) ∙ promise total holds (tab H (y .loadShare)) .size ∙ holds-size
+
+      totals-size : length totals ≡ H
+      totals-size = ap length (t .step7) ∙ length-tab H _
+
+      module _ (rest : List ℕ) where
+        in-front : (row : List ℕ) (f : ℕ → ℕ) → length row ≡ H → Row H row f → Row H (row ++ rest) f
+        in-front row f size same h l = List·getD-append row rest 0 h (omega arith) ∙ same h l
+
+        given : Given y (shares ++ rest) (totals ++ rest) (holds ++ rest) preRa newUse left
+        given =
+            record {
+              share = in-front shares (step5Share y) shares-size share-row;
+              total = in-front totals (step7Total y) totals-size total-row;
+              hold = in-front holds (held y) holds-size hold-row;
+              granted = granted;
+              kept = kept;
+              remain = remain;
+            }
+
+        pub year-opened : (state after : List ℕ) → 16000 ≤ length state →
+            after ≡ written kw I H (shares ++ rest) (totals ++ rest) (holds ++ rest) preRa newUse left state → after ≡ openedState y state
+        year-opened state after long w =
+            w
+            ∙ pick-true _ _ _
+            (and-both (leb stateWords (length state) && leb I 48) (leb H 32)
+            (and-both (leb stateWords (length state)) (leb I 48) (le-leb stateWords (length state) long) (le-leb I 48 (v .interties-most)))
+            (le-leb H 32 (v .holders-most)))
+            ∙ opened-written kw ties I H v (shares ++ rest) (totals ++ rest) (holds ++ rest) preRa newUse left given state

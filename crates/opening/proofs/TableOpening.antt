@@ -13,11 +13,10 @@ use Rattle.base.specs.Sums.{sumTo}
 use Rattle.base.specs.Answers.{refused, granted}
 use Rattle.base.proofs.ChoiceLaws.{pick-false}
 use Rattle.base.proofs.SumLaws.{sumTo-same}
-use Rattle.base.proofs.WordLaws.{length-tab}
 use Rattle.state.specs.Layout.{stateWords}
 use Rattle.sheets.specs.Sheet as Sheet
 use Rattle.sheets.specs.Refusal.{sheetRefusal}
-use Rattle.sheets.specs.Tables.{slots, table, kwTable, intertieTable, Filled, ReadSheet}
+use Rattle.sheets.specs.Tables.{kwTable, intertieTable, Filled, ReadSheet}
 use Rattle.sheets.proofs.SheetLaws.{first-words, read-stands}
 use Rattle.sheets.proofs.TableLaws.{limit-at, outside-at, load-share-at, existing-at, pre-ra-at, new-use-kw-at, new-use-intertie-at}
 use Rattle.steps.specs.Inputs.{Inputs, ofSheet}
@@ -95,10 +94,6 @@ module _ (s : List ℕ) (e : sheetRefusal s ≡ 0) where
         fits = λ i l. omega (arith, a .outside i (few i l), existing-same i l, a .limit i (few i l), v .fits i l);
       }
 
-  pub table-size : (amount : ℕ → ℕ) → length (table s amount) ≡ 12481
-  unfolding table
-  table-size amount = length-tab slots _
-
 zero-or : (n : ℕ) → (n ≡ 0) ⊎ (n ≢ 0)
 zero-or zero = inl refl
 zero-or (suc n) = inr (λ e. absurd (omega arith))
@@ -136,12 +131,6 @@ module _ (sheet counts₀ kw₀ ties₀ counts kw ties : List ℕ) (number : ℕ
 
   filled : Filled sheet counts kw ties
   filled = read-stands sheet counts₀ kw₀ ties₀ counts kw ties number r zero .1
-
-  pub read-kw-size : length kw ≡ 12481
-  read-kw-size = ap length (filled .summed) ∙ table-size sheet stands (Sheet.kwAt sheet)
-
-  pub read-ties-size : length ties ≡ 12481
-  read-ties-size = ap length (filled .placed) ∙ table-size sheet stands _
 
   module _ (I H : ℕ) (i : I ≡ pick (ltb (length sheet) 12) 0 (Sheet.interties sheet)) (h : H ≡ pick (ltb (length sheet) 12) 0 (Sheet.holders sheet)) where
     abbrev there : ltb (length sheet) 12 ≡ false

@@ -1,56 +1,41 @@
--- What Steps 2 and 5 to 7 are handed, and what they leave, as rows and tables.
-use Prim.Native.Nat.{ℕ, _+_, _-_, _*_, _/_, _≤_, _<_}
+-- What Steps 5 to 7 are handed, and what they leave, as rows and tables.
+use Prim.Native.Nat.{ℕ, _+_, _*_, _≤_, _<_}
 use mathlib.Core.Path.{_≡_}
 use mathlib.Core.List.{List}
 use lib.ListN.{length}
 use Rattle.base.specs.Sums.{sumTo}
 use Rattle.base.specs.Words.{at, tab}
-use Rattle.sheets.specs.Tables.{limitSlot, outsideSlot, loadShareSlot}
+use Rattle.sheets.specs.Tables.{loadShareSlot, existingSlot}
 use Rattle.step5.specs.Shares.{step5Shares}
-use Rattle.opening.specs.Vectors.{pairAt}
+use Rattle.reserving.specs.Vectors.{pairAt}
 
--- the sheet's table of kW with limits and load shares in range, and room for what Step 2 finds
-pub record Step2Given (kw pools loads quantities : List ℕ) : Type 0 where
-  pub few : length pools ≤ 48
-  pub small : length loads ≤ 32
-  pub each : length quantities ≡ length loads
-  pub kw-size : length kw ≡ 12481
-  pub limits : (i : ℕ) → i < length pools → at kw (limitSlot i) ≤ 20000000
-  pub load-shares : (h : ℕ) → h < length loads → at kw (loadShareSlot h) ≤ 100000000
-
--- available on each of I interties, load share and Load Share Quantity of each of H holders, and T
-pub record Step2Taken (kw : List ℕ) (I H : ℕ) (pools loads quantities : List ℕ) (total : ℕ) : Type 0 where
-  pub pool : pools ≡ tab I (λ i. at kw (limitSlot i) - at kw (outsideSlot i))
-  pub load : loads ≡ tab H (λ h. at kw (loadShareSlot h))
-  pub sum : total ≡ sumTo I (λ i. at kw (limitSlot i) - at kw (outsideSlot i))
-  pub quantity : quantities ≡ tab H (λ h. total * at kw (loadShareSlot h) / sumTo H (λ h. at kw (loadShareSlot h)))
-
--- what a holder holds, by the tables of E, P and N
+-- what a holder holds, by the sheet's table of kW and the tables of P and N
 abbrev pub heldFrom : ℕ → List ℕ → List ℕ → List ℕ → ℕ → ℕ
-heldFrom I existing preRa newUse h =
-    sumTo I (λ i. at existing (pairAt h i)) + sumTo I (λ i. at preRa (pairAt h i)) + sumTo I (λ i. at newUse (pairAt h i))
+heldFrom I kw preRa newUse h =
+    sumTo I (λ i. at kw (existingSlot h i)) + sumTo I (λ i. at preRa (pairAt h i)) + sumTo I (λ i. at newUse (pairAt h i))
 
--- a table of the pairs, each of its numbers at most 100,000,000
-pub record KwTable (I H : ℕ) (table : List ℕ) : Type 0 where
-  pub size : length table ≡ 1536
-  pub small : (h i : ℕ) → h < H → i < I → at table (pairAt h i) ≤ 100000000
-
--- T, the load shares, and E, P and N of which the holders together hold at most T; room for a number of each holder
-pub record HeldGiven (total I : ℕ) (loads existing preRa newUse held shares totals : List ℕ) : Type 0 where
+-- tables of which E, P and N of a pair are each at most 100,000,000
+pub record KwTables (I H : ℕ) (kw preRa newUse : List ℕ) : Type 0 where
   pub few : I ≤ 48
-  pub small : length loads ≤ 32
-  pub total-most : total ≤ 960000000
-  pub load-shares : (h : ℕ) → h < length loads → at loads h ≤ 100000000
-  pub existing-table : KwTable I (length loads) existing
-  pub pre-ra-table : KwTable I (length loads) preRa
-  pub new-use-table : KwTable I (length loads) newUse
-  pub within : sumTo (length loads) (heldFrom I existing preRa newUse) ≤ total
-  pub held-room : length held ≡ length loads
-  pub shares-room : length shares ≡ length loads
-  pub totals-room : length totals ≡ length loads
+  pub small : H ≤ 32
+  pub kw-size : length kw ≡ 12481
+  pub pre-ra-size : length preRa ≡ 1536
+  pub new-use-size : length newUse ≡ 1536
+  pub existing-most : (h i : ℕ) → h < H → i < I → at kw (existingSlot h i) ≤ 100000000
+  pub pre-ra-most : (h i : ℕ) → h < H → i < I → at preRa (pairAt h i) ≤ 100000000
+  pub new-use-most : (h i : ℕ) → h < H → i < I → at newUse (pairAt h i) ≤ 100000000
 
--- held, Step 5 shares and Step 7 totals
-pub record HeldTaken (total I : ℕ) (loads existing preRa newUse held shares totals : List ℕ) : Type 0 where
-  pub hold : held ≡ tab (length loads) (heldFrom I existing preRa newUse)
-  pub share : shares ≡ step5Shares total held loads
-  pub step7 : totals ≡ tab (length loads) (λ h. at held h + at shares h)
+-- T, and tables by which the holders together hold at most T; room for a number of each holder
+pub record HeldGiven (total : ℕ) (kw : List ℕ) (I : ℕ) (preRa newUse held shares totals : List ℕ) : Type 0 where
+  pub tables : KwTables I (length held) kw preRa newUse
+  pub total-most : total ≤ 960000000
+  pub load-shares : (h : ℕ) → h < length held → at kw (loadShareSlot h) ≤ 100000000
+  pub within : sumTo (length held) (heldFrom I kw preRa newUse) ≤ total
+  pub shares-room : length shares ≡ length held
+  pub totals-room : length totals ≡ length held
+
+-- held, Step 5 shares and Step 7 totals of H holders
+pub record HeldTaken (total : ℕ) (kw : List ℕ) (I H : ℕ) (preRa newUse held shares totals : List ℕ) : Type 0 where
+  pub hold : held ≡ tab H (heldFrom I kw preRa newUse)
+  pub share : shares ≡ step5Shares total held (tab H (λ h. at kw (loadShareSlot h)))
+  pub step7 : totals ≡ tab H (λ h. at held h + at shares h)

@@ -20,7 +20,10 @@ fillPairs field (suc m) n f s = fillRow (field + m) n (f m) (fillPairs field m n
 abbrev pub fitRow : ℕ → ℕ → ℕ → ℕ → Bool
 fitRow words row n values = leb stateWords words && ltb row 333 && leb n 48 && leb n values
 
+-- whether a field of the pairs fits: a state of so many words, rows that it has whole, at most 32 holders and 48 interties
+abbrev pub fitField : ℕ → ℕ → ℕ → ℕ → Bool
+fitField words field m n = leb stateWords words && leb field 300 && leb m 32 && leb n 48
+
 -- whether a table of the pairs fits: 48 values for each of 32 holders
 abbrev pub fitPairs : ℕ → ℕ → ℕ → ℕ → ℕ → Bool
-fitPairs words field m n values =
-    leb stateWords words && leb field 300 && leb m 32 && leb n 48 && leb 1536 values
+fitPairs words field m n values = fitField words field m n && leb 1536 values

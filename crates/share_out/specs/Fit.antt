@@ -1,8 +1,9 @@
 -- What the workers of a share-out are handed once numbers 5 and 9 are decided.
-use Prim.Native.Nat.{ℕ, _+_, _*_, _/_, _≤_, _<_}
+use Prim.Native.Nat.{ℕ, _+_, _*_, _/_, _%_, _≤_, _<_}
 use mathlib.Core.Path.{_≡_}
 use mathlib.Core.Bool.{Bool, false}
 use mathlib.Core.List.{List}
+use lib.Bits.{bitOr}
 use lib.ListN.{length}
 use lib.Dec.{ltb}
 use Rattle.base.specs.Choice.{pick}
@@ -21,6 +22,14 @@ pub record Sized (claims weights grants : List ℕ) : Type 0 where
 -- every one of the first n numbers is at most `most`
 abbrev pub AtMost : ℕ → List ℕ → ℕ → Type 0
 AtMost n l most = (i : ℕ) → i < n → at l i ≤ most
+
+-- no number of the first n is above bits
+abbrev pub Covered : ℕ → (ℕ → ℕ) → ℕ → Type 0
+Covered n f bits = (i : ℕ) → i < n → f i ≤ bits
+
+-- the bits of a weight and of the weight raised so that one in range stays below 2 ^ 27
+unfoldable pub raised : ℕ → ℕ
+raised weight = bitOr weight (weight % 4294967296 + 34217727)
 
 -- no grants yet
 abbrev pub none : List ℕ → List ℕ

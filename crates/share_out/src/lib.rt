@@ -1,15 +1,16 @@
 // The share-out: a pool over claims with weights, in passes (document 01, "Share-out").
 use base::Answer;
 ghost use mathlib.Core.Path.{_≡_};
-ghost use mathlib.Core.Bool.{_&&_, true, false};
-ghost use Prim.Native.Nat.{_+_, _-_, _*_, _/_, _<_, _≤_, min};
+ghost use mathlib.Core.Bool.{not, _&&_, true, false};
+ghost use Prim.Native.Nat.{ℕ, _+_, _-_, _*_, _/_, _<_, _≤_, min};
 ghost use lib.ListN.{length};
 ghost use Rattle.base.specs.Choice.{pick};
-ghost use Rattle.base.specs.Words.{tab};
+ghost use Rattle.base.specs.Sums.{allTo};
+ghost use Rattle.base.specs.Words.{at, tab};
 ghost use Rattle.share_out.specs.Pass.{unmet};
-ghost use Rattle.share_out.specs.Rule.{claimed, shared, unfitLengths, unfitNumbers, sharedAnswer, shareOut};
+ghost use Rattle.share_out.specs.Rule.{claimed, shared, unfitLengths, inRange, unfitNumbers, sharedAnswer, shareOut};
 ghost use Rattle.share_out.specs.Turn.{inTurn};
-ghost use Rattle.share_out.specs.Fit.{AtMost, Weighable, Weighed, Rated, Serving, Raised, Completed, Ready, Accepted, none, wants};
+ghost use Rattle.share_out.specs.Fit.{AtMost, Covered, raised, Weighable, Weighed, Rated, Serving, Raised, Completed, Ready, Accepted, none, wants};
 ghost use lib.Dec.{leb, ltb};
 
 const MOST_HOLDERS: usize = 32;
@@ -51,14 +52,51 @@ fn in_range(claim: u64, weight: u64) -> bool
     (claim <= MOST_CLAIM_KW) & (weight <= MOST_WEIGHT)
 }
 
-// Number 9: whether the pool, a claim or a weight is out of its range.
-fn unfit_numbers(pool: u64, claims: &[u64], weights: &[u64]) -> bool
-    requires { ⌜ length (now weights) ≡ length (now claims) ⌝ }
-    ensures { λ r. ⌜ r ≡ unfitNumbers pool (now (claims .entry)) (now (weights .entry)) ⌝ }
+// The bits of all claims put together, which no claim is above.
+fn claim_bits(claims: &[u64]) -> u64
+    ensures { λ r. ⌜ Covered (length (now (claims .entry))) (at (now (claims .entry))) r ⌝ }
 {
-    if MOST_POOL_KW < pool {
-        return true;
+    let mut bits = 0;
+    let mut i = 0;
+    while i < claims.len() {
+        bits = bits | claims[i];
+        i += 1;
     }
+    bits
+}
+
+// The bits of a weight and of the weight raised so that one in range stays below 2 to the power 27.
+fn raised(weight: u64) -> u64
+    ensures { λ r. ⌜ r ≡ raised weight ⌝ }
+{
+    weight | (weight % 4_294_967_296 + 34_217_727)
+}
+
+// The bits of all raised weights put together, which none of them is above.
+fn weight_bits(weights: &[u64]) -> u64
+    ensures { λ r. ⌜ Covered (length (now (weights .entry))) (λ (i : ℕ). raised (at (now (weights .entry)) i)) r ⌝ }
+{
+    let mut bits = 0;
+    let mut i = 0;
+    while i < weights.len() {
+        bits = bits | raised(weights[i]);
+        i += 1;
+    }
+    bits
+}
+
+// Whether the bits of all show that each is within its range.
+fn surely_in_range(claims: u64, weights: u64) -> bool
+    ensures { λ r. ⌜ r ≡ (leb claims 20480000000 && ltb weights 134217728) ⌝ }
+{
+    (claims <= MOST_CLAIM_KW) & (weights < 134_217_728)
+}
+
+// Whether a claim or a weight is out of its range, tested one by one.
+fn some_out_of_range(claims: &[u64], weights: &[u64]) -> bool
+    requires { ⌜ length (now weights) ≡ length (now claims) ⌝ }
+    ensures { λ r. ⌜ r ≡ not (allTo (length (now (claims .entry))) (inRange (now (claims .entry)) (now (weights .entry)))) ⌝ }
+{
     let mut i = 0;
     while i < claims.len() {
         if !in_range(claims[i], weights[i]) {
@@ -67,6 +105,20 @@ fn unfit_numbers(pool: u64, claims: &[u64], weights: &[u64]) -> bool
         i += 1;
     }
     false
+}
+
+// Number 9: whether the pool, a claim or a weight is out of its range. Most lists are told by their bits alone.
+fn unfit_numbers(pool: u64, claims: &[u64], weights: &[u64]) -> bool
+    requires { ⌜ length (now weights) ≡ length (now claims) ⌝ }
+    ensures { λ r. ⌜ r ≡ unfitNumbers pool (now (claims .entry)) (now (weights .entry)) ⌝ }
+{
+    if MOST_POOL_KW < pool {
+        return true;
+    }
+    if surely_in_range(claim_bits(claims), weight_bits(weights)) {
+        return false;
+    }
+    some_out_of_range(claims, weights)
 }
 
 // The claims together.

@@ -17,11 +17,6 @@ pub pick-cases : {A : Type 0} (P : A → Type 0) (b : Bool) (x y : A) → (b ≡
 pick-cases P true x y f g = f refl
 pick-cases P false x y f g = g refl
 
--- a choice between equals
-pub pick-same : (b : Bool) (x : ℕ) → x ≡ pick b x x
-pick-same true x = refl
-pick-same false x = refl
-
 -- tests that hold of each other are equal
 pub same-test : (a b : Bool) → (a ≡ true → b ≡ true) → (b ≡ true → a ≡ true) → a ≡ b
 same-test true b f g = sym (f refl)

@@ -1,15 +1,15 @@
--- The slot of a record by its kind, holder, intertie and rank: as the code finds it, and which records have a given slot.
-use Prim.Native.Nat.{ℕ, _+_, _-_, _*_, _≤_, _<_}
+-- The slot of a record by its kind, holder, intertie and rank: which records have a given slot.
+use Prim.Native.Nat.{ℕ, _+_, _≤_, _<_}
 use mathlib.Core.Path.{_≡_}
 use mathlib.Core.Bool.{_&&_}
 use mathlib.Core.List.{List}
 use native.Mathlib.Omega.{arith}
-use borrow.Author.Tests.{eqb-true, eqb-false, ne-eqb, ltb-false, lt-ltb, le-ltb}
+use borrow.Author.Tests.{eqb-true, ltb-false, le-ltb}
 use lib.Dec.{eqb, ltb}
 use Rattle.base.specs.Words.{at}
 use Rattle.sheets.specs.Key.{kindOf, holderOf, intertieOf, rankOf}
 use Rattle.sheets.specs.Tables.{slot, slotOf, add, limitSlot, outsideSlot, loadShareSlot, existingSlot, preRaSlot, newUseSlot, slots}
-use Rattle.sheets.proofs.BaseMore.{pick-cases, pick-same, test-by, equal-two, equal-three}
+use Rattle.sheets.proofs.BaseMore.{pick-cases, test-by, equal-two, equal-three}
 
 -- each region of slots belongs to one kind
 record Slotted (k h i r j : ℕ) : Type 0 where
@@ -77,61 +77,5 @@ module _ (k h i r : ℕ) (bh : h < 64) (bi : i < 64) (br : r < 256) where
         λ p. simp (p .0, p .1, p .2, le-ltb 31 h′ (omega arith)),
       )
 
--- the slot by kind, as the code finds it
-module _ (k h i r : ℕ) where
-  pub slot-limit : k ≡ 1 → i ≡ slot k h i r
-  unfolding slot
-  slot-limit e = simp e
-
-  pub slot-outside : k ≡ 2 → 64 + i ≡ slot k h i r
-  unfolding slot
-  slot-outside e = simp e
-
-  pub slot-load-share : k ≡ 3 → 128 + h ≡ slot k h i r
-  unfolding slot
-  slot-load-share e = simp e
-
-  -- kinds 4 to 6 have no slots of their own for holders from 32 up
-  pub slot-far : (k ≡ 1 → ⊥) → (k ≡ 2 → ⊥) → (k ≡ 3 → ⊥) → 31 < h → 12480 ≡ slot k h i r
-  unfolding slot
-  slot-far n₁ n₂ n₃ l = simp (ne-eqb k 1 n₁, ne-eqb k 2 n₂, ne-eqb k 3 n₃, lt-ltb 31 h l)
-
-  pub slot-contract : (k ≡ 1 → ⊥) → (k ≡ 2 → ⊥) → (k ≡ 3 → ⊥) → 1 ≤ k → k < 6 → h ≤ 31 → 192 + 2048 * (k - 4) + 64 * h + i ≡ slot k h i r
-  unfolding slot
-  slot-contract n₁ n₂ n₃ l m b =
-      simp (ne-eqb k 1 n₁, ne-eqb k 2 n₂, ne-eqb k 3 n₃, le-ltb 31 h b)
-      (pick-cases (λ (x : ℕ). 192 + 2048 * (k - 4) + 64 * h + i ≡ x) (eqb k 4) _ _
-      (λ t. let e = eqb-true k 4 t in omega arith)
-      (λ f. let n₄ = eqb-false k 4 f in let e : k ≡ 5 = omega arith in simp e (omega arith)))
-
-  pub slot-new-use : k ≡ 6 → h ≤ 31 → 4288 + 256 * h + r ≡ slot k h i r
-  unfolding slot
-  slot-new-use e b = simp (e, le-ltb 31 h b)
-
-  pub slot-new-use-far : k ≡ 6 → 31 < h → 12480 ≡ slot k h i r
-  unfolding slot
-  slot-new-use-far e l = simp (e, lt-ltb 31 h l)
-
-  pub slot-none-0 : k < 1 → 12480 ≡ slot k h i r
-  unfolding slot
-  slot-none-0 l = let e : k ≡ 0 = omega arith in simp e (pick-same (ltb 31 h) 12480)
-
-  pub slot-none : 6 ≤ k → (k ≡ 6 → ⊥) → 12480 ≡ slot k h i r
-  unfolding slot
-  slot-none l f =
-      simp (ne-eqb k 1 (omega arith), ne-eqb k 2 (omega arith), ne-eqb k 3 (omega arith), ne-eqb k 4 (omega arith), ne-eqb k 5 (omega arith), ne-eqb k 6 f) (pick-same (ltb 31 h) 12480)
-
-pub ruleset slot-by-kind = (slot-limit, slot-outside, slot-load-share, slot-far, slot-contract, slot-new-use, slot-new-use-far, slot-none-0, slot-none)
-
 pub slot-of-below : (key : ℕ) → slotOf key < slots
 slot-of-below key = slotted (kindOf key) (holderOf key) (intertieOf key) (rankOf key) (omega arith) (omega arith) (omega arith) .below
-
--- a slot and an amount as they were read have room where the slot of the key has
-pub in-table : (key j : ℕ) → j ≡ slotOf key → j < slots
-in-table key j e = rw e (slot-of-below key)
-
-pub room : (l : List ℕ) (key j a b m : ℕ) → j ≡ slotOf key → a ≡ b → at l (slotOf key) + b < m → at l j + a < m
-room l key j a b m e f h = rw (e, f) h
-
-pub added : (l t : List ℕ) (key j a b : ℕ) → j ≡ slotOf key → a ≡ b → t ≡ add l j a → t ≡ add l (slotOf key) b
-added l t key j a b e f h = rw (← e, ← f) h

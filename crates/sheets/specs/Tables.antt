@@ -1,14 +1,14 @@
--- The tables that one pass over the records fills: a slot for each limit, outside right, load share, contract and rank, and one more for the rest.
-use Prim.Native.Nat.{ℕ, _+_, _*_}
+-- The tables that the records fill: a slot for each limit, outside right, load share, contract and rank, and one more for the rest.
+use Prim.Native.Nat.{ℕ, _+_, _*_, _<_}
 use mathlib.Core.Path.{_≡_}
 use mathlib.Core.Bool.{_||_}
 use mathlib.Core.List.{List}
 use lib.Dec.{eqb, ltb}
-use lib.ListN.{set, replicate}
+use lib.ListN.{set}
 use Rattle.base.specs.Choice.{pick}
 use Rattle.base.specs.Words.{at, tab}
 use Rattle.sheets.specs.Key.{kindOf, holderOf, intertieOf, rankOf}
-use Rattle.sheets.specs.Sheet.{sumOver, keyAt, kwAt}
+use Rattle.sheets.specs.Sheet.{count, sumOver, keyAt, kwAt}
 use Rattle.sheets.specs.Refusal.{badLength, badSizes, sheetRefusal}
 
 -- interties 0 to 63
@@ -55,6 +55,10 @@ slot k h i r =
 abbrev pub slotOf : ℕ → ℕ
 slotOf key = slot (kindOf key) (holderOf key) (intertieOf key) (rankOf key)
 
+-- a list that has the slot of each record of a sheet
+abbrev pub SlotsOf : List ℕ → List ℕ → Type 0
+SlotsOf s found = (k : ℕ) → k < count s → at found k ≡ slotOf (keyAt s k)
+
 -- at each slot the sum of an amount over its records
 unfoldable pub table : List ℕ → (ℕ → ℕ) → List ℕ
 table s amount = tab slots (λ j. sumOver s (λ key. eqb (slotOf key) j) amount)
@@ -74,12 +78,6 @@ intertieTable s = table s (λ k. intertieOf (keyAt s k))
 -- a table with an amount added at a slot
 abbrev pub add : List ℕ → ℕ → ℕ → List ℕ
 add l j a = set l j (at l j + a)
-
--- three tables with nothing in them yet
-pub record Cleared (counts kw interties : List ℕ) : Type 0 where
-  pub no-records : counts ≡ replicate slots 0
-  pub no-kw : kw ≡ replicate slots 0
-  pub no-interties : interties ≡ replicate slots 0
 
 -- three tables that were filled from a sheet
 pub record Filled (s counts kw interties : List ℕ) : Type 0 where

@@ -1,5 +1,5 @@
-// The sheet of an assignment year: the fields of its keys, its records one by one, and the tables
-// and refusals 1 to 4 that one pass over the records gives.
+// The sheet of an assignment year: the fields of its keys, its records one by one, the tables that
+// they fill, and refusals 1 to 4.
 pub mod cursor;
 pub mod key;
 pub mod reader;

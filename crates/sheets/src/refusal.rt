@@ -3,12 +3,15 @@ ghost use mathlib.Core.Path.{_≡_};
 ghost use mathlib.Core.Bool.{false, _&&_, not};
 ghost use Prim.Native.Nat.{_+_, _≤_, _<_};
 ghost use lib.Dec.{leb, eqb};
+ghost use lib.ListN.{replicate};
 ghost use Rattle.base.specs.Sums.{allTo};
 ghost use Rattle.base.specs.Words.{at};
 ghost use Rattle.sheets.specs.Refusal.{within, badLength, badSizes, sheetRefusal};
-ghost use Rattle.sheets.specs.Tables.{slots, Cleared, Filled, ReadSheet};
+ghost use Rattle.sheets.specs.Tables.{slots, SlotsOf, countTable, kwTable, ReadSheet};
 ghost use Rattle.sheets.specs.Deciding.{tableRulesHold, tableExistingOn, tableLimitHolds, Modest};
+use crate::rules;
 use crate::tables;
+use crate::tables::MOST_RECORDS;
 use crate::tables::SLOTS;
 use crate::words;
 
@@ -93,20 +96,27 @@ fn rules_hold(stand: bool, counts: &[u16; SLOTS], holders: usize, interties: usi
         & none_twice(counts, tables::NEW_USE, 256 * holders)
 }
 
-// Numbers 3 and 4 of a sheet that numbers 1 and 2 let pass, and its records in cleared tables.
+// Numbers 3 and 4 of a sheet that numbers 1 and 2 let pass, and its records in cleared tables. The
+// slots of the records are at hand.
 fn read_sized(
     sheet: &[u8],
+    found: &[u32; MOST_RECORDS],
     counts: &mut [u16; SLOTS],
     kw: &mut [u64; SLOTS],
-    interties: &mut [u16; SLOTS],
 ) -> u32
-    requires { ⌜ (badLength (now sheet) ≡ false) × (badSizes (now sheet) ≡ false) × Cleared (now counts) (now kw) (now interties) ⌝ }
+    requires { ⌜ (badLength (now sheet) ≡ false)
+        × (badSizes (now sheet) ≡ false)
+        × SlotsOf (now sheet) (now found)
+        × (now counts ≡ replicate slots 0)
+        × (now kw ≡ replicate slots 0) ⌝ }
     ensures { λ r. ⌜ (r ≡ sheetRefusal (now (sheet .entry)))
-        × Filled (now (sheet .entry)) (now (counts .exit)) (now (kw .exit)) (now (interties .exit)) ⌝ }
+        × (now (counts .exit) ≡ countTable (now (sheet .entry)))
+        × (now (kw .exit) ≡ kwTable (now (sheet .entry))) ⌝ }
 {
     let intertie_count = words::word(sheet, 0) as usize;
     let holder_count = words::word(sheet, 4) as usize;
-    let stand = tables::fill_tables(sheet, counts, kw, interties);
+    let stand = rules::records_stand(sheet);
+    tables::add_records(sheet, found, counts, kw);
     let rules = rules_hold(stand, counts, holder_count, intertie_count);
     let limits = limits_hold(kw, holder_count, intertie_count);
     if !rules {
@@ -135,10 +145,13 @@ pub fn read_sheet(
     if bad_sizes(words::word(sheet, 0), words::word(sheet, 4)) {
         return 2;
     }
+    let mut found = [0; MOST_RECORDS];
+    tables::find_slots(sheet, &mut found);
+    *interties = [0; SLOTS];
+    tables::place_records(sheet, &found, interties);
     *counts = [0; SLOTS];
     *kw = [0; SLOTS];
-    *interties = [0; SLOTS];
-    read_sized(sheet, counts, kw, interties)
+    read_sized(sheet, &found, counts, kw)
 }
 
 // The refusal of a sheet alone.
@@ -151,8 +164,9 @@ pub fn sheet_refusal(sheet: &[u8]) -> u32
     if bad_sizes(words::word(sheet, 0), words::word(sheet, 4)) {
         return 2;
     }
+    let mut found = [0; MOST_RECORDS];
+    tables::find_slots(sheet, &mut found);
     let mut counts = [0; SLOTS];
     let mut kw = [0; SLOTS];
-    let mut interties = [0; SLOTS];
-    read_sized(sheet, &mut counts, &mut kw, &mut interties)
+    read_sized(sheet, &found, &mut counts, &mut kw)
 }

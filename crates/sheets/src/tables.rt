@@ -1,18 +1,18 @@
-// The tables that one pass over the records fills. A record's slot goes by its kind, holder,
-// intertie and rank. Records of no kind, and those of kinds 4 to 6 with a holder from 32 up, share
+// The tables that the records fill. A record's slot goes by its kind, holder, intertie and rank, and
+// is found for all of them before the first is added. Records of no kind, and those of kinds 4 to 6 with a holder from 32 up, share
 // the last slot.
 ghost use mathlib.Core.Path.{_≡_};
 ghost use mathlib.Core.Bool.{false};
-ghost use Prim.Native.Nat.{_+_, _<_, _^_};
+ghost use Prim.Native.Nat.{ℕ, _+_, _<_, _^_};
+ghost use lib.ListN.{length, replicate};
+ghost use Rattle.base.specs.Choice.{pick};
 ghost use Rattle.base.specs.Words.{at};
-ghost use Rattle.sheets.specs.Key.{intertieOf};
-ghost use Rattle.sheets.specs.Refusal.{badLength, recordsStand};
-ghost use Rattle.sheets.specs.Tables.{slot, slotOf, slots, add, Cleared, Filled};
+ghost use Rattle.sheets.specs.Refusal.{badLength};
+ghost use Rattle.sheets.specs.Tables.{slot, slotOf, slots, add, SlotsOf, countTable, kwTable, intertieTable};
 use crate::cursor::Cursor;
 use crate::cursor::Read;
 use crate::key;
 use crate::reader;
-use crate::rules;
 use crate::words;
 
 // How many slots a table has: 64 + 64 + 64 + 32 · 64 + 32 · 64 + 32 · 256, and one for the rest.
@@ -29,111 +29,135 @@ pub const PRE_RA: usize = 2240;
 
 pub const NEW_USE: usize = 4288;
 
-const OTHER: usize = 12480;
+const OTHER: u32 = 12480;
 
-fn slot(kind: usize, holder: usize, intertie: usize, rank: usize) -> usize
+// How many records a sheet may have.
+pub(crate) const MOST_RECORDS: usize = 1024;
+
+// A choice without a branch: both numbers are at hand.
+fn either(test: bool, one: u32, other: u32) -> u32
+    ensures { λ r. ⌜ r ≡ pick {A = ℕ} test one other ⌝ }
+{
+    if test {
+        return one;
+    }
+    other
+}
+
+fn slot(kind: u32, holder: u32, intertie: u32, rank: u32) -> u32
     requires { ⌜ (holder < 64) × (intertie < 64) × (rank < 256) ⌝ }
     ensures { λ r. ⌜ r ≡ slot kind holder intertie rank ⌝ }
 {
-    match kind {
-        1 => intertie,
-        2 => OUTSIDE + intertie,
-        3 => LOAD_SHARES + holder,
-        4..=5 => {
-            if 31 < holder {
-                return OTHER;
-            }
-            // Kind 5 starts 2,048 slots after kind 4.
-            EXISTING + 2048 * (kind - 4) + 64 * holder + intertie
-        }
-        6 => {
-            if 31 < holder {
-                return OTHER;
-            }
-            NEW_USE + 256 * holder + rank
-        }
-        _ => OTHER,
-    }
+    let new_use = either(kind == 6, NEW_USE as u32 + 256 * holder + rank, OTHER);
+    let pre_ra = either(kind == 5, PRE_RA as u32 + 64 * holder + intertie, new_use);
+    let existing = either(kind == 4, EXISTING as u32 + 64 * holder + intertie, pre_ra);
+    let by_holder = either(31 < holder, OTHER, existing);
+    let load_share = either(kind == 3, LOAD_SHARES as u32 + holder, by_holder);
+    let outside = either(kind == 2, OUTSIDE as u32 + intertie, load_share);
+    either(kind == 1, intertie, outside)
 }
 
-fn slot_of(key: u32) -> usize
+fn slot_of(key: u32) -> u32
     ensures { λ r. ⌜ r ≡ slotOf key ⌝ }
 {
-    let kind = key::kind(key) as usize;
-    let holder = key::holder(key) as usize;
-    let intertie = key::intertie(key) as usize;
-    let rank = key::rank(key) as usize;
-    slot(kind, holder, intertie, rank)
+    slot(
+        key::kind(key),
+        key::holder(key),
+        key::intertie(key),
+        key::rank(key),
+    )
 }
 
-// Adds one record, its kilowatts and its intertie at a slot.
-fn add_at(
-    slot: usize,
-    quantity: u32,
-    intertie: u32,
-    counts: &mut [u16; SLOTS],
-    kw: &mut [u64; SLOTS],
-    interties: &mut [u16; SLOTS],
-)
-    requires { ⌜ (slot < slots)
-        × (at (now counts) slot + 1 < 2 ^ 16)
-        × (at (now kw) slot + quantity < 2 ^ 64)
-        × (at (now interties) slot + intertie < 2 ^ 16) ⌝ }
-    ensures { λ _. ⌜ (now (counts .exit) ≡ add (now (counts .entry)) slot 1)
-        × (now (kw .exit) ≡ add (now (kw .entry)) slot quantity)
-        × (now (interties .exit) ≡ add (now (interties .entry)) slot intertie) ⌝ }
+// The slot of each record.
+pub(crate) fn find_slots(sheet: &[u8], found: &mut [u32; MOST_RECORDS])
+    requires { ⌜ (badLength (now sheet) ≡ false) × (length (now found) ≡ 1024) ⌝ }
+    ensures { λ _. ⌜ SlotsOf (now (sheet .entry)) (now (found .exit)) ⌝ }
 {
-    counts[slot] += 1;
-    kw[slot] += quantity as u64;
-    interties[slot] += intertie as u16;
-}
-
-// Adds a record at its slot.
-fn add_record(
-    key: u32,
-    quantity: u32,
-    counts: &mut [u16; SLOTS],
-    kw: &mut [u64; SLOTS],
-    interties: &mut [u16; SLOTS],
-)
-    requires { ⌜ (at (now counts) (slotOf key) + 1 < 2 ^ 16)
-        × (at (now kw) (slotOf key) + quantity < 2 ^ 64)
-        × (at (now interties) (slotOf key) + intertieOf key < 2 ^ 16) ⌝ }
-    ensures { λ _. ⌜ (now (counts .exit) ≡ add (now (counts .entry)) (slotOf key) 1)
-        × (now (kw .exit) ≡ add (now (kw .entry)) (slotOf key) quantity)
-        × (now (interties .exit) ≡ add (now (interties .entry)) (slotOf key) (intertieOf key)) ⌝ }
-{
-    let slot = slot_of(key);
-    let intertie = key::intertie(key);
-    add_at(slot, quantity, intertie, counts, kw, interties);
-}
-
-// The pass over the records: fills cleared tables and says whether each record keeps its rule.
-pub(crate) fn fill_tables(
-    sheet: &[u8],
-    counts: &mut [u16; SLOTS],
-    kw: &mut [u64; SLOTS],
-    interties: &mut [u16; SLOTS],
-) -> bool
-    requires { ⌜ (badLength (now sheet) ≡ false) × Cleared (now counts) (now kw) (now interties) ⌝ }
-    ensures { λ r. ⌜ (r ≡ recordsStand (now (sheet .entry)))
-        × Filled (now (sheet .entry)) (now (counts .exit)) (now (kw .exit)) (now (interties .exit)) ⌝ }
-{
-    let intertie_count = words::word(sheet, 0);
-    let holder_count = words::word(sheet, 4);
     let count = words::word(sheet, 8) as usize;
-    let mut stand = true;
     let mut cursor = Cursor::first();
     loop {
         let read = reader::read_record(sheet, count, cursor.at);
         match read {
             Read::Next(record, next) => {
-                stand = stand
-                    & rules::record_stands(record.key, record.kw, intertie_count, holder_count);
-                add_record(record.key, record.kw, counts, kw, interties);
+                let place = cursor.at;
+                found[place] = slot_of(record.key);
                 cursor = next;
             }
-            Read::End => return stand,
+            Read::End => return,
+        }
+    }
+}
+
+// Adds one record and its kilowatts at a slot.
+fn add_at(slot: u32, quantity: u32, counts: &mut [u16; SLOTS], kw: &mut [u64; SLOTS])
+    requires { ⌜ (slot < slots) × (at (now counts) slot + 1 < 2 ^ 16) × (at (now kw) slot + quantity < 2 ^ 64) ⌝ }
+    ensures { λ _. ⌜ (now (counts .exit) ≡ add (now (counts .entry)) slot 1)
+        × (now (kw .exit) ≡ add (now (kw .entry)) slot quantity) ⌝ }
+{
+    let place = slot as usize;
+    counts[place] += 1;
+    kw[place] += quantity as u64;
+}
+
+// Counts each record in cleared tables and adds its kilowatts, with its slot at hand.
+pub(crate) fn add_records(
+    sheet: &[u8],
+    found: &[u32; MOST_RECORDS],
+    counts: &mut [u16; SLOTS],
+    kw: &mut [u64; SLOTS],
+)
+    requires { ⌜ (badLength (now sheet) ≡ false)
+        × SlotsOf (now sheet) (now found)
+        × (now counts ≡ replicate slots 0)
+        × (now kw ≡ replicate slots 0) ⌝ }
+    ensures { λ _. ⌜ (now (counts .exit) ≡ countTable (now (sheet .entry)))
+        × (now (kw .exit) ≡ kwTable (now (sheet .entry))) ⌝ }
+{
+    let count = words::word(sheet, 8) as usize;
+    let mut cursor = Cursor::first();
+    loop {
+        let read = reader::read_record(sheet, count, cursor.at);
+        match read {
+            Read::Next(record, next) => {
+                let place = cursor.at;
+                let slot = found[place];
+                add_at(slot, record.kw, counts, kw);
+                cursor = next;
+            }
+            Read::End => return,
+        }
+    }
+}
+
+// Adds an intertie at a slot.
+fn place_at(slot: u32, intertie: u32, interties: &mut [u16; SLOTS])
+    requires { ⌜ (slot < slots) × (at (now interties) slot + intertie < 2 ^ 16) ⌝ }
+    ensures { λ _. ⌜ now (interties .exit) ≡ add (now (interties .entry)) slot intertie ⌝ }
+{
+    let place = slot as usize;
+    interties[place] += intertie as u16;
+}
+
+// Adds the intertie of each record to a cleared table.
+pub(crate) fn place_records(sheet: &[u8], found: &[u32; MOST_RECORDS], interties: &mut [u16; SLOTS])
+    requires { ⌜ (badLength (now sheet) ≡ false)
+        × SlotsOf (now sheet) (now found)
+        × (now interties ≡ replicate slots 0) ⌝ }
+    ensures { λ _. ⌜ now (interties .exit) ≡ intertieTable (now (sheet .entry)) ⌝ }
+{
+    let count = words::word(sheet, 8) as usize;
+    let mut cursor = Cursor::first();
+    loop {
+        let read = reader::read_record(sheet, count, cursor.at);
+        match read {
+            Read::Next(record, next) => {
+                let place = cursor.at;
+                let slot = found[place];
+                let intertie = key::intertie(record.key);
+                place_at(slot, intertie, interties);
+                cursor = next;
+            }
+            Read::End => return,
         }
     }
 }

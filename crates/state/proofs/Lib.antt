@@ -1,4 +1,3 @@
 pub mod BaseMore
-pub mod CheckLaws
 pub mod OrderlyLaws
 pub mod FrameLaws

@@ -1,30 +1,12 @@
-// The year's state: where its words stand, how they are read and stored, and whether they are
-// orderly.
+// The year's state: where its words stand, and how they are read and stored.
 pub mod layout;
-mod orderly;
 
 use layout::ROW_WORDS;
-use layout::STATE_WORDS;
 ghost use mathlib.Core.Path.{_≡_};
 ghost use Prim.Native.Nat.{_+_};
 ghost use lib.ListN.{set};
 ghost use Rattle.base.specs.Words.{at};
 ghost use Rattle.state.specs.Layout.{place};
-ghost use Rattle.state.specs.Orderly.{stateRefusal};
-
-// The refusal that every call of the year begins with: 5 for a state under 16,000 words, 6 for one
-// that is not orderly, else 0.
-pub fn state_refusal(state: &[u32]) -> u32
-    ensures { λ r. ⌜ r ≡ stateRefusal (now (state .entry)) ⌝ }
-{
-    if state.len() < STATE_WORDS {
-        return 5;
-    }
-    if orderly::is_orderly(state) {
-        return 0;
-    }
-    6
-}
 
 // The word of a row and column: 0 past the end.
 pub fn word(state: &[u32], row: u32, column: u32) -> u32

@@ -68,7 +68,7 @@ pub fn take(state: &mut [u32], holder: u32, intertie: u32, kw: u64, day: u32) ->
 fn take_refusal(state: &[u32], holder: u32, intertie: u32, kw: u64, day: u32) -> u32
     ensures { λ r. ⌜ r ≡ takeRefusal (now (state .entry)) holder intertie kw day ⌝ }
 {
-    let unfit = state::state_refusal(state);
+    let unfit = orderly::state_refusal(state);
     if unfit != 0 {
         return unfit;
     }

@@ -39,7 +39,7 @@ pub fn request(state: &mut [u32], holder: u32, intertie: u32, kw: u64) -> Answer
 fn trade_refusal(state: &[u32], seller: u32, buyer: u32, kw: u64) -> u32
     ensures { λ r. ⌜ r ≡ tradeRefusal (now (state .entry)) seller buyer kw ⌝ }
 {
-    let unfit = state::state_refusal(state);
+    let unfit = orderly::state_refusal(state);
     if unfit != 0 {
         return unfit;
     }
@@ -62,7 +62,7 @@ fn trade_refusal(state: &[u32], seller: u32, buyer: u32, kw: u64) -> u32
 fn request_refusal(state: &[u32], holder: u32, intertie: u32, kw: u64) -> u32
     ensures { λ r. ⌜ r ≡ requestRefusal (now (state .entry)) holder intertie kw ⌝ }
 {
-    let unfit = state::state_refusal(state);
+    let unfit = orderly::state_refusal(state);
     if unfit != 0 {
         return unfit;
     }

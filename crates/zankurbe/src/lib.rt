@@ -44,7 +44,7 @@ pub extern "C" fn zankurbe_sheet_refusal(sheet: &[u8]) -> u32
 pub extern "C" fn zankurbe_state_refusal(state: &[u32]) -> u32
     ensures { λ r. ⌜ r ≡ stateRefusal (now (state .entry)) ⌝ }
 {
-    state::state_refusal(state)
+    orderly::state_refusal(state)
 }
 
 // Opens the year from a sheet (Steps 1 to 7); answers T.

@@ -57,8 +57,9 @@ same-length-4 c = search needs
 
 returns-2 : tie.Need-returns-2
 returns-2 c =
-    let a = c .before .before .before .before .before .before .before .before .before .before .before .before .before .before .before .before .before .before .before .before .before .before .args in
-    answers-done (now (a .state)) (now (a .grants)) _ _ _ _ (c .before .before .before .before .before .before .before .before .before .before .before .before .before .before .before .before .before .close-refusal .ensures) (c .before .before .before .before .before .before .before .before .before .before .before .before .before .before .before .before .if1 .left) (c .before .before .before .before .before .before .before .before .before .before .before .before .before .share-out-pending .ensures .0) (c .before .before .before .apply .ensures) (c .before .before .before .before .before .before .before .before .write-grants .ensures)
+    let a = c .before .before .before .before .before .before .before .before .before .before .before .before .before .before .before .before .before .before .before .before .before .args in
+    answers-done (now (a .state)) (now (a .grants)) _ _ _ _ (c .before .before .before .before .before .before .before .before .before .before .before .before .before .before .before .before .close-refusal .ensures) (c .before .before .before .before .before .before .before .before .before .before .before .before .before .before .before .if1 .left)
+    (c .before .before .before .before .before .before .before .before .before .before .before .before .share-out-pending .ensures .0) (c .before .before .apply .ensures) (c .before .before .before .before .before .before .before .write-grants .ensures)
 
 pub close-spec : {M : Type 1} → statement M
 close-spec =

@@ -1,5 +1,6 @@
--- `keep_new_use` meets its contract: after r turns the state is the definition's after the ranks below r (`LoopLaws`).
+-- `keep_new_use` meets its contract: after r turns the state is the definition's after the ranks below r (`LoopLaws`), and the ranks past the used ones change nothing.
 use Prim.Native.Nat.{_-_}
+use mathlib.Core.Path.{ap}
 use native.Mathlib.Omega.{arith}
 use lib.ListN.{length}
 use denote.Ref.{now}
@@ -9,11 +10,11 @@ use Rattle.new_use.proofs.keep_new_use.Statement.{statement}
 use Rattle.new_use.proofs.keep_new_use.Tie as tie
 
 abbrev Inv-loop : tie.InvT-loop
-Inv-loop kw interties allowance cover₀ kept₀ ranks left₀ r₀ cover kept left r =
-    Ranked kw interties allowance cover₀ (length kept₀) ranks (record { cover = cover; kept = kept; allowance = left }) r
+Inv-loop kw interties allowance cover₀ kept₀ ranks used left₀ r₀ cover kept left r =
+    Ranked kw interties allowance cover₀ (length kept₀) used (record { cover = cover; kept = kept; allowance = left }) r
 
 abbrev μ-loop : tie.MeasureT-loop
-μ-loop kw interties allowance cover₀ kept₀ ranks left₀ r₀ cover kept left r = ranks - r
+μ-loop kw interties allowance cover₀ kept₀ ranks used left₀ r₀ cover kept left r = used - r
 
 clear-requires : tie.Need-clear-requires Inv-loop μ-loop
 clear-requires c κs = search needs
@@ -21,20 +22,23 @@ clear-requires c κs = search needs
 shorter-requires : tie.Need-shorter-requires Inv-loop μ-loop
 shorter-requires c κs = search needs
 
+used-ranks-requires : tie.Need-used-ranks-requires Inv-loop μ-loop
+used-ranks-requires c κs = omega (arith, c .shorter .ensures)
+
 loop-holds : tie.Need-loop-holds Inv-loop μ-loop
-loop-holds c = ranked-none _ _ _ _ _ _ _ (cleared-whole (length (now (c .before .before .before .before .before .before .before .before .before .args .kept))) _ (c .before .before .before .clear .ensures))
+loop-holds c = ranked-none _ _ _ _ _ _ _ (cleared-whole (length (now (c .before .before .before .before .before .before .before .before .before .before .args .kept))) _ (c .before .before .before .before .clear .ensures))
 
 mul-keep-rank : tie.Need-mul-keep-rank Inv-loop μ-loop
 mul-keep-rank c = search needs
 
 shared-slice-read-keep-rank : tie.Need-shared-slice-read-keep-rank Inv-loop μ-loop
-shared-slice-read-keep-rank c = search needs
+shared-slice-read-keep-rank c = omega (arith, c .before .loop-test .taken, c .before .before .before .used-ranks .ensures .within, c .before .before .before .before .shorter .ensures)
 
 mul-place : tie.Need-mul-place Inv-loop μ-loop
 mul-place c = search needs
 
 shared-slice-read-place : tie.Need-shared-slice-read-place Inv-loop μ-loop
-shared-slice-read-place c = search needs
+shared-slice-read-place c = omega (arith, c .before .before .loop-test .taken, c .before .before .before .before .used-ranks .ensures .within, c .before .before .before .before .before .shorter .ensures)
 
 place-requires : tie.Need-place-requires Inv-loop μ-loop
 place-requires c κs = search needs
@@ -63,8 +67,8 @@ same-length-2 c = search needs
 
 returns : tie.Need-returns Inv-loop μ-loop
 returns c =
-    rw (← cleared-size (length (now (c .before .before .before .before .before .before .before .before .before .before .before .args .kept))) _ (c .before .before .before .before .before .clear .ensures))
-    (ranked-all _ _ _ _ _ _ _ _ (c .before .loop .inv) (c .loop-test .left) (c .before .before .shorter .ensures))
+    rw (← cleared-size (length (now (c .before .before .before .before .before .before .before .before .before .before .before .before .args .kept))) _ (c .before .before .before .before .before .before .clear .ensures))
+    (ranked-all _ _ _ _ _ _ _ _ (c .before .loop .inv) (c .loop-test .left) (rw (c .before .before .before .shorter .ensures) at (c .before .before .used-ranks .ensures)))
 
 pub keep-new-use-spec : {M : Type 1} → statement M
 keep-new-use-spec =
@@ -74,6 +78,7 @@ keep-new-use-spec =
     μ-loop
     clear-requires
     shorter-requires
+    used-ranks-requires
     loop-holds
     mul-keep-rank
     shared-slice-read-keep-rank

@@ -2,7 +2,7 @@
 use mathlib.Core.Path.{sym, ap, _∙_}
 use denote.Ref.{now}
 use Rattle.opening.specs.Open.{Outcome}
-use Rattle.opening.proofs.TableOpening.{open-refused, open-short, read-kw-size, read-ties-size, read-valid, read-opened}
+use Rattle.opening.proofs.TableOpening.{open-refused, open-short, read-valid, read-opened}
 use borrow.Author.Needs.{needs}
 use Rattle.opening.proofs.open.Statement.{statement}
 use Rattle.opening.proofs.open.Tie as tie
@@ -42,14 +42,8 @@ holder-count-requires c κs = search needs
 cast-holders : tie.Need-cast-holders
 cast-holders c = search needs
 
-slice-aggregate-carry-out : tie.Need-slice-aggregate-carry-out
-slice-aggregate-carry-out c = sym (read-kw-size _ _ _ _ _ _ _ _ (c .before .before .before .before .before .read-sheet .ensures) (c .before .before .before .before .if1 .left))
-
-slice-aggregate-carry-out-2 : tie.Need-slice-aggregate-carry-out-2
-slice-aggregate-carry-out-2 c = sym (read-ties-size _ _ _ _ _ _ _ _ (c .before .before .before .before .before .before .read-sheet .ensures) (c .before .before .before .before .before .if1 .left))
-
 carry-out-requires : tie.Need-carry-out-requires
-carry-out-requires c κs = (read-valid _ _ _ _ _ _ _ _ (c .before .before .before .before .before .before .before .read-sheet .ensures) (c .before .before .before .before .before .before .if1 .left) _ _ (c .before .before .before .before .intertie-count .ensures) (c .before .before .before .holder-count .ensures), read-kw-size _ _ _ _ _ _ _ _ (c .before .before .before .before .before .before .before .read-sheet .ensures) (c .before .before .before .before .before .before .if1 .left), read-ties-size _ _ _ _ _ _ _ _ (c .before .before .before .before .before .before .before .read-sheet .ensures) (c .before .before .before .before .before .before .if1 .left), c .before .before .before .before .before .if2 .left)
+carry-out-requires c κs = (read-valid _ _ _ _ _ _ _ _ (c .before .before .before .before .before .before .before .read-sheet .ensures) (c .before .before .before .before .before .before .if1 .left) _ _ (c .before .before .before .before .intertie-count .ensures) (c .before .before .before .holder-count .ensures), c .before .before .before .before .before .if2 .left)
 
 granted-requires : tie.Need-granted-requires
 granted-requires c κs = search needs
@@ -75,8 +69,6 @@ open-spec =
     cast-interties
     holder-count-requires
     cast-holders
-    slice-aggregate-carry-out
-    slice-aggregate-carry-out-2
     carry-out-requires
     granted-requires
     same-length

@@ -1,84 +1,56 @@
--- `writing::write_sheet` meets its contract: after b turns the first b bytes are the sheet's.
-use Prim.Native.Nat.{ℕ, _-_, _/_, _%_, _≤_}
-use mathlib.Core.Path.{_≡_, sym, ap, _∙_}
-use mathlib.Core.List.{List}
-use native.Mathlib.Omega.{arith}
-use lib.ListN.{length}
+-- `writing::write_sheet` meets its contract: its words in their order (`SpellLaws`).
 use borrow.Author.Needs.{needs}
 use denote.Ref.{now}
-use Rattle.base.specs.Words.{fill}
-use Rattle.base.proofs.WordLaws.{fill-zero, fill-turn}
-use Rattle.carrying.specs.NewSheet.{sizeOf, byteOf}
-use Rattle.carrying.specs.Draft.{draftWord}
+use Rattle.carrying.proofs.SpellLaws.{sheet-spelled}
 use Rattle.carrying.proofs.writing.write_sheet.Statement.{statement}
 use Rattle.carrying.proofs.writing.write_sheet.Tie as tie
 
--- byte b of the sheet that the tables give
-abbrev draftByte : ℕ → ℕ → ℕ → List ℕ → List ℕ → ℕ → ℕ
-draftByte I H n keys kws b = byteOf (draftWord I H n keys kws (b / 4)) (b % 4)
+write-word-requires : tie.Need-write-word-requires
+write-word-requires c κs = search needs
 
-abbrev Inv-loop : tie.InvT-loop
-Inv-loop interties holders records keys kws output₀ b₀ output b =
-    (b ≤ sizeOf records) × (length output ≡ length output₀)
-    × (output ≡ fill b (draftByte interties holders records keys kws) output₀)
+write-word-requires-2 : tie.Need-write-word-requires-2
+write-word-requires-2 c κs = search needs
 
-abbrev μ-loop : tie.MeasureT-loop
-μ-loop interties holders records keys kws output₀ b₀ output b = sizeOf records - b
+cast-write-word : tie.Need-cast-write-word
+cast-write-word c = search needs
 
-loop-holds : tie.Need-loop-holds Inv-loop μ-loop
-loop-holds c = (search needs, search needs, sym (fill-zero _ _))
+write-word-requires-3 : tie.Need-write-word-requires-3
+write-word-requires-3 c κs = search needs
 
-mul-loop : tie.Need-mul-loop Inv-loop μ-loop
-mul-loop c = search needs
+write-words-requires : tie.Need-write-words-requires
+write-words-requires c κs = search needs
 
-add-loop : tie.Need-add-loop Inv-loop μ-loop
-add-loop c = search needs
+add-write-words : tie.Need-add-write-words
+add-write-words c = search needs
 
-draft-word-requires : tie.Need-draft-word-requires Inv-loop μ-loop
-draft-word-requires c κs = search needs
+write-words-requires-2 : tie.Need-write-words-requires-2
+write-words-requires-2 c κs = search needs
 
-byte-of-requires : tie.Need-byte-of-requires Inv-loop μ-loop
-byte-of-requires c κs = search needs
-
-slice-write-output : tie.Need-slice-write-output Inv-loop μ-loop
-slice-write-output c = search needs
-
-add-b : tie.Need-add-b Inv-loop μ-loop
-add-b c = search needs
-
-loop-less : tie.Need-loop-less Inv-loop μ-loop
-loop-less c = search needs
-
-loop-again : tie.Need-loop-again Inv-loop μ-loop
-loop-again c = (
-  search needs,
-  search needs,
-  fill-turn _ (draftByte (c .before .before .before .before .before .args .interties) (c .before .before .before .before .before .args .holders) (c .before .before .before .before .before .args .records) (now (c .before .before .before .before .before .args .keys)) (now (c .before .before .before .before .before .args .kws))) _ _ _ (c .before .before .before .loop .inv .2)
-      (c .byte-of .ensures ∙ ap (λ (w : ℕ). byteOf w (c .before .before .before .loop .b % 4)) (c .before .draft-word .ensures)),
-)
-
-same-length : tie.Need-same-length Inv-loop μ-loop
+same-length : tie.Need-same-length
 same-length c = search needs
 
-returns : tie.Need-returns Inv-loop μ-loop
+returns : tie.Need-returns
 returns c =
-    let end : c .before .loop .b ≡ sizeOf (c .before .before .before .args .records) = omega (arith, c .loop-test .left, c .before .loop .inv .0) in
-    c .before .loop .inv .2 ∙ ap (λ (n : ℕ). fill n (draftByte (c .before .before .before .args .interties) (c .before .before .before .args .holders) (c .before .before .before .args .records) (now (c .before .before .before .args .keys)) (now (c .before .before .before .args .kws))) (now (c .before .before .before .args .output))) end
+    let quantities = c .before .before in
+    let keys = quantities .before .before .before .before in
+    let count = keys .before .before .before .before in
+    let holders = count .before .before .before .before in
+    let interties = holders .before .before .before .before in
+    let a = interties .before .before .before .args in
+    sheet-spelled (a .interties) (a .holders) (a .records) (now (a .keys)) (now (a .kws)) _ _ _ _ _ _
+    (interties .write-word .ensures) (holders .write-word2 .ensures) (count .write-word3 .ensures)
+    (keys .write-words .ensures .1) (quantities .write-words2 .ensures .1)
 
 pub write-sheet-spec : {M : Type 1} → statement M
 write-sheet-spec =
     tie.close
     (tie.spec
-    Inv-loop
-    μ-loop
-    loop-holds
-    mul-loop
-    add-loop
-    draft-word-requires
-    byte-of-requires
-    slice-write-output
-    add-b
-    loop-less
-    loop-again
+    write-word-requires
+    write-word-requires-2
+    cast-write-word
+    write-word-requires-3
+    write-words-requires
+    add-write-words
+    write-words-requires-2
     same-length
     returns)

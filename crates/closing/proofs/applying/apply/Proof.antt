@@ -2,7 +2,8 @@
 use native.Mathlib.Omega.{arith}
 use denote.Ref.{now}
 use Rattle.state.proofs.OrderlyLaws.{refusal-none}
-use Rattle.closing.proofs.TableLaws.{length-zeros, at-zeros}
+use Rattle.closing.proofs.TableLaws.{length-zeros}
+use Rattle.closing.proofs.GrantLaws.{table-to}
 use Rattle.closing.proofs.ClosedLaws.{written}
 use borrow.Author.Needs.{needs}
 use Rattle.closing.proofs.applying.apply.Statement.{statement}
@@ -13,8 +14,8 @@ slice-aggregate-left-unassigned c = search needs
 
 left-unassigned-requires : tie.Need-left-unassigned-requires
 left-unassigned-requires c κs =
-    let p = c .before .before .before .before .before .pre in
-    (p .0, omega (arith, p .1 .size), omega (arith, length-zeros 48), λ k l. at-zeros 48 k l)
+    let p = c .before .before .before .before .pre in
+    (p .0, p .1, omega (arith, length-zeros 48))
 
 intertie-count-requires : tie.Need-intertie-count-requires
 intertie-count-requires c κs = search needs
@@ -27,12 +28,18 @@ slice-aggregate-left-unplaced c = search needs
 
 left-unplaced-requires : tie.Need-left-unplaced-requires
 left-unplaced-requires c κs =
-    let p = c .before .before .before .before .before .before .before .before .before .before .before .before .before .before .pre in
+    let s = c .before .before .before .before .before .before .before .before .before .before .before .before in
+    let p = s .pre in
     let o = refusal-none _ (p .0 .fit) in
-    (o .0, omega (arith, c .before .before .before .holder-count .ensures, o .1 .holders-most), omega (arith, c .before .before .before .before .before .intertie-count .ensures, o .1 .interties-most), omega (arith, p .1 .size), omega (arith, length-zeros 32))
-
-add-placed-requires : tie.Need-add-placed-requires
-add-placed-requires c κs = search needs
+    let n = c .before .before .before .before .intertie-count in
+    let m = c .before .before .holder-count in (
+      o .0,
+      omega (arith, m .ensures, o .1 .holders-most),
+      omega (arith, n .ensures, o .1 .interties-most),
+      omega (arith, p .1 .size),
+      omega (arith, length-zeros 32),
+      λ h k. rw (n .ensures) (table-to (now (s .args .state)) (now (s .args .table)) (p .1) (o .1) h (rw (← m .ensures) k)),
+    )
 
 slice-aggregate-write-state : tie.Need-slice-aggregate-write-state
 slice-aggregate-write-state c = search needs
@@ -42,20 +49,18 @@ slice-aggregate-write-state-2 c = search needs
 
 write-state-requires : tie.Need-write-state-requires
 write-state-requires c κs =
-    let a = c .before .before .before .before .before .before .before .before .before .before .before .before .before .before .before .before .before .before .before .before .before .before .before .before .before .args in
-    let p = c .before .before .before .before .before .before .before .before .before .before .before .before .before .before .before .before .before .before .before .before .before .before .before .before .before .pre in
-    let o = refusal-none _ (p .0 .fit) in (
+    let s = c .before .before .before .before .before .before .before .before .before .before .before .before .before .before .before .before .before in
+    let p = s .pre in
+    let o = refusal-none _ (p .0 .fit) in
+    let u = c .before .before .before .before .before .before .before .before .before .before .before .before .left-unassigned in (
       p .0,
-      written (now (a .state)) (now (a .table)) _ _ _ _ _ (o .1) (p .1) (c .before .before .before .before .before .before .before .before .before .before .before .before .before .before .before .before .intertie-count .ensures) (c .before .before .before .before .before .before .before .before .before .before .before .before .before .before .holder-count .ensures)
-          (omega (arith, c .before .before .before .before .before .before .before .before .before .before .before .before .before .before .before .before .before .before .before .left-unassigned .kept .1 .1 .0, length-zeros 48)) (c .before .before .before .before .before .before .before .before .before .before .before .before .before .before .before .before .before .before .before .left-unassigned .ensures) (c .before .before .before .before .before .before .before .before .before .before .left-unplaced .ensures)
-          (omega (arith, c .before .before .before .before .before .before .add-placed .kept .1 .0, p .1 .size)) (c .before .before .before .before .before .before .add-placed .ensures),
+      p .1,
+      written (now (s .args .state)) (now (s .args .table)) _ _ _ _ (o .1) (p .1) (c .before .before .before .before .before .before .before .before .before .intertie-count .ensures) (c .before .before .before .before .before .before .before .holder-count .ensures)
+          (omega (arith, u .kept .1 .1 .0, length-zeros 48)) (u .ensures) (c .before .before .before .before .left-unplaced .ensures),
     )
 
 same-length : tie.Need-same-length
 same-length c = search needs
-
-same-length-2 : tie.Need-same-length-2
-same-length-2 c = search needs
 
 returns : tie.Need-returns
 returns c = search needs
@@ -70,10 +75,8 @@ apply-spec =
     holder-count-requires
     slice-aggregate-left-unplaced
     left-unplaced-requires
-    add-placed-requires
     slice-aggregate-write-state
     slice-aggregate-write-state-2
     write-state-requires
     same-length
-    same-length-2
     returns)

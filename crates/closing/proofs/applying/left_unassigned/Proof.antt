@@ -1,7 +1,6 @@
 -- `left_unassigned` meets its contract: the words are read, and the grants are taken off.
 use Prim.Native.Nat.{_-_, _≤_, _<_}
 use mathlib.Core.Path.{ap, _∙_}
-use native.Mathlib.Nat.{zero-add}
 use native.Mathlib.Omega.{arith}
 use denote.Ref.{now}
 use Rattle.base.specs.Sums.{sumTo}
@@ -9,7 +8,8 @@ use Rattle.base.specs.Words.{at}
 use Rattle.interties.specs.Pairs.{atPair}
 use Rattle.state.specs.Layout.{unassignedOf}
 use Rattle.state.proofs.OrderlyLaws.{refusal-none}
-use Rattle.closing.proofs.SharingLaws.{read-row}
+use Rattle.closing.proofs.GrantLaws.{table-on}
+use Rattle.closing.proofs.SharingLaws.{read-words}
 use borrow.Author.Needs.{needs}
 use Rattle.closing.proofs.applying.left_unassigned.Statement.{statement}
 use Rattle.closing.proofs.applying.left_unassigned.Tie as tie
@@ -20,22 +20,32 @@ intertie-count-requires c κs = search needs
 holder-count-requires : tie.Need-holder-count-requires
 holder-count-requires c κs = search needs
 
-cast-add-row : tie.Need-cast-add-row
-cast-add-row c = search needs
+cast-read-row : tie.Need-cast-read-row
+cast-read-row c = search needs
 
-add-row-requires : tie.Need-add-row-requires
-add-row-requires c κs =
+read-row-requires : tie.Need-read-row-requires
+read-row-requires c κs =
     let p = c .before .before .before .before .before .before .pre in
     let o = refusal-none _ (p .0 .fit) in
     let few : c .before .before .intertie-count .result ≤ 48 = omega (arith, c .before .before .intertie-count .ensures, o .1 .interties-most) in
-    (o .0, omega arith, few, omega (arith, p .2), λ k l. omega (arith, p .3 k (omega arith), ap (at (now (c .before .before .before .before .before .before .args .row))) (zero-add k)))
+    (o .0, omega arith, few, omega (arith, p .2))
 
 take-off-holders-requires : tie.Need-take-off-holders-requires
 take-off-holders-requires c κs =
-    let p = c .before .before .before .before .before .before .before .before .before .before .pre in
+    let s = c .before .before .before .before .before .before .before .before .before .before in
+    let p = s .pre in
     let o = refusal-none _ (p .0 .fit) in
-    let few : c .before .before .before .before .before .before .intertie-count .result ≤ 48 = omega (arith, c .before .before .before .before .before .before .intertie-count .ensures, o .1 .interties-most) in
-    (omega (arith, c .before .before .before .before .before .holder-count .ensures, o .1 .holders-most), few, p .1, omega (arith, p .2, c .before .before .before .add-row .kept .1 .1 .1 .0))
+    let n = c .before .before .before .before .before .before .intertie-count in
+    let m = c .before .before .before .before .before .holder-count in
+    let few : n .result ≤ 48 = omega (arith, n .ensures, o .1 .interties-most) in (
+      omega (arith, m .ensures, o .1 .holders-most),
+      few,
+      omega (arith, p .1 .size),
+      omega (arith, p .2, c .before .before .before .read-row .kept .1 .1 .1 .0),
+      λ i l.
+          rw (m .ensures, read-words (now (s .args .state)) (now (s .args .row)) _ 104 (n .result) (omega (arith, p .2)) (c .before .before .before .read-row .ensures) i l)
+          (table-on (now (s .args .state)) (now (s .args .table)) (p .1) i (rw (← n .ensures) l)),
+    )
 
 same-length : tie.Need-same-length
 same-length c = search needs
@@ -47,7 +57,7 @@ returns c =
     let o = refusal-none _ (p .0 .fit) in
     let n = c .before .before .before .before .before .before .before .before .before .intertie-count .result in
     let few : n ≤ 48 = omega (arith, c .before .before .before .before .before .before .before .before .before .intertie-count .ensures, o .1 .interties-most) in
-    let had = read-row (now (a .state)) (now (a .row)) _ 104 n (omega (arith, p .2)) (λ k l. p .3 k (omega arith)) (c .before .before .before .before .before .before .add-row .ensures) in
+    let had = read-words (now (a .state)) (now (a .row)) _ 104 n (omega (arith, p .2)) (c .before .before .before .before .before .before .read-row .ensures) in
     λ i l.
     let inside : i < n = rw (c .before .before .before .before .before .before .before .before .before .intertie-count .ensures) l in
     c .before .before .take-off-holders .ensures i inside
@@ -60,8 +70,8 @@ left-unassigned-spec =
     (tie.spec
     intertie-count-requires
     holder-count-requires
-    cast-add-row
-    add-row-requires
+    cast-read-row
+    read-row-requires
     take-off-holders-requires
     same-length
     returns)

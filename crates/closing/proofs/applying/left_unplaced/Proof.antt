@@ -51,7 +51,7 @@ mul-left-of : tie.Need-mul-left-of Inv-loop μ-loop
 mul-left-of c = search needs
 
 left-of-requires : tie.Need-left-of-requires Inv-loop μ-loop
-left-of-requires c κs = search needs
+left-of-requires c κs = (search needs, c .before .before .before .before .before .before .pre .5 (c .before .before .loop .holder) (c .before .loop-test .taken))
 
 mul-row : tie.Need-mul-row Inv-loop μ-loop
 mul-row c = search needs

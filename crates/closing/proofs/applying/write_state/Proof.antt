@@ -27,20 +27,17 @@ cast-store-row-2 c = search needs
 store-row-requires-2 : tie.Need-store-row-requires-2
 store-row-requires-2 c κs = search needs
 
-cast-store-pairs : tie.Need-cast-store-pairs
-cast-store-pairs c = search needs
+cast-raise-pairs : tie.Need-cast-raise-pairs
+cast-raise-pairs c = search needs
 
-store-pairs-requires : tie.Need-store-pairs-requires
-store-pairs-requires c κs = search needs
+raise-pairs-requires : tie.Need-raise-pairs-requires
+raise-pairs-requires c κs = search needs
 
-cast-store-pairs-2 : tie.Need-cast-store-pairs-2
-cast-store-pairs-2 c = search needs
+cast-clear-pairs : tie.Need-cast-clear-pairs
+cast-clear-pairs c = search needs
 
-slice-aggregate-store-pairs : tie.Need-slice-aggregate-store-pairs
-slice-aggregate-store-pairs c = search needs
-
-store-pairs-requires-2 : tie.Need-store-pairs-requires-2
-store-pairs-requires-2 c κs = search needs
+clear-pairs-requires : tie.Need-clear-pairs-requires
+clear-pairs-requires c κs = search needs
 
 add-store : tie.Need-add-store
 add-store c = search needs
@@ -53,12 +50,18 @@ same-length c = search needs
 
 returns : tie.Need-returns
 returns c =
-    let a = c .before .before .before .before .before .before .before .before .before .before .before .before .before .before .before .before .before .before .before .before .before .before .before .before .before .before .before .before .before .before .before .args in
-    let p = c .before .before .before .before .before .before .before .before .before .before .before .before .before .before .before .before .before .before .before .before .before .before .before .before .before .before .before .before .before .before .before .pre in
-    let o = refusal-none _ (p .0 .fit) in
-    state-is (now (a .state)) (now (a .unassigned)) (now (a .unplaced)) (now (a .placed)) _ _ _ _ _ _ _ _ (o .0) (o .1) (p .1)
-    (c .before .before .before .before .before .before .before .before .before .before .before .before .before .before .before .before .before .before .before .before .before .before .before .before .before .intertie-count .ensures) (c .before .before .before .before .before .before .before .before .before .before .before .before .before .before .before .before .before .before .before .before .before .before .before .holder-count .ensures) (c .before .before .before .before .before .before .before .before .before .before .before .before .before .before .before .before .before .before .before .before .before .stage .ensures)
-    (c .before .before .before .before .before .before .before .before .before .before .before .before .before .before .before .before .before .before .before .store-row .ensures) (c .before .before .before .before .before .before .before .before .before .before .before .before .before .before .before .store-row2 .ensures) (c .before .before .before .before .before .before .before .before .before .before .before .store-pairs .ensures) (c .before .before .before .before .before .before .store-pairs2 .ensures) (c .before .before .store .ensures)
+    let s = c .before .before .before .before .before .before .before .before .before .before .before .before .before .before .before .before .before .before .before .before .before .before .before .before .before .before .before .before .before .before in
+    let a = s .args in
+    let o = refusal-none _ (s .pre .0 .fit) in
+    state-is (now (a .state)) (now (a .unassigned)) (now (a .unplaced)) (now (a .table)) _ _ _ _ _ _ _ _ (o .0) (o .1) (s .pre .1) (s .pre .2)
+    (c .before .before .before .before .before .before .before .before .before .before .before .before .before .before .before .before .before .before .before .before .before .before .before .before .intertie-count .ensures)
+    (c .before .before .before .before .before .before .before .before .before .before .before .before .before .before .before .before .before .before .before .before .before .before .holder-count .ensures)
+    (c .before .before .before .before .before .before .before .before .before .before .before .before .before .before .before .before .before .before .before .before .stage .ensures)
+    (c .before .before .before .before .before .before .before .before .before .before .before .before .before .before .before .before .before .before .store-row .ensures)
+    (c .before .before .before .before .before .before .before .before .before .before .before .before .before .before .store-row2 .ensures)
+    (c .before .before .before .before .before .before .before .before .before .before .raise-pairs .ensures)
+    (c .before .before .before .before .before .before .clear-pairs .ensures)
+    (c .before .before .store .ensures)
 
 pub write-state-spec : {M : Type 1} → statement M
 write-state-spec =
@@ -71,11 +74,10 @@ write-state-spec =
     store-row-requires
     cast-store-row-2
     store-row-requires-2
-    cast-store-pairs
-    store-pairs-requires
-    cast-store-pairs-2
-    slice-aggregate-store-pairs
-    store-pairs-requires-2
+    cast-raise-pairs
+    raise-pairs-requires
+    cast-clear-pairs
+    clear-pairs-requires
     add-store
     store-requires
     same-length

@@ -3,7 +3,7 @@ use Prim.Native.Nat.{_+_, _*_, _≤_}
 use native.Mathlib.Omega.{arith}
 use denote.Ref.{now}
 use Rattle.state.proofs.OrderlyLaws.{refusal-none}
-use Rattle.closing.proofs.TableLaws.{length-zeros, at-zeros}
+use Rattle.closing.proofs.TableLaws.{length-zeros}
 use Rattle.closing.proofs.SharingLaws.{pending-shared}
 use borrow.Author.Needs.{needs}
 use Rattle.closing.proofs.sharing.share_out_pending.Statement.{statement}
@@ -15,30 +15,30 @@ intertie-count-requires c κs = search needs
 holder-count-requires : tie.Need-holder-count-requires
 holder-count-requires c κs = search needs
 
-cast-add-row : tie.Need-cast-add-row
-cast-add-row c = search needs
+cast-read-row : tie.Need-cast-read-row
+cast-read-row c = search needs
 
-slice-aggregate-add-row : tie.Need-slice-aggregate-add-row
-slice-aggregate-add-row c = search needs
+slice-aggregate-read-row : tie.Need-slice-aggregate-read-row
+slice-aggregate-read-row c = search needs
 
-add-row-requires : tie.Need-add-row-requires
-add-row-requires c κs =
+read-row-requires : tie.Need-read-row-requires
+read-row-requires c κs =
     let o = refusal-none _ (c .before .before .before .before .before .pre .0 .fit) in
     let few : c .before .before .intertie-count .result ≤ 48 = omega (arith, c .before .before .intertie-count .ensures, o .1 .interties-most) in
-    (o .0, omega arith, few, omega (arith, length-zeros 48), λ k l. omega (arith, at-zeros 48 (0 + k) (omega arith)))
+    (o .0, omega arith, few, omega (arith, length-zeros 48))
 
-cast-add-pairs : tie.Need-cast-add-pairs
-cast-add-pairs c = search needs
+cast-read-pairs : tie.Need-cast-read-pairs
+cast-read-pairs c = search needs
 
-slice-aggregate-add-pairs : tie.Need-slice-aggregate-add-pairs
-slice-aggregate-add-pairs c = search needs
+slice-aggregate-read-pairs : tie.Need-slice-aggregate-read-pairs
+slice-aggregate-read-pairs c = search needs
 
-add-pairs-requires : tie.Need-add-pairs-requires
-add-pairs-requires c κs =
+read-pairs-requires : tie.Need-read-pairs-requires
+read-pairs-requires c κs =
     let o = refusal-none _ (c .before .before .before .before .before .before .before .before .pre .0 .fit) in
     let few : c .before .before .before .before .before .intertie-count .result ≤ 48 = omega (arith, c .before .before .before .before .before .intertie-count .ensures, o .1 .interties-most) in
     let low : c .before .before .before .before .holder-count .result ≤ 32 = omega (arith, c .before .before .before .before .holder-count .ensures, o .1 .holders-most) in
-    (o .0, omega arith, low, few, omega (arith, length-zeros 1536), λ h i k l. omega (arith, at-zeros 1536 (48 * h + i) (omega arith)))
+    (o .0, omega arith, low, few, omega (arith, length-zeros 1536))
 
 slice-aggregate-weigh : tie.Need-slice-aggregate-weigh
 slice-aggregate-weigh c = search needs
@@ -67,7 +67,7 @@ returns c =
     let p = c .before .before .before .before .before .before .before .before .before .before .before .before .before .before .before .before .before .before .before .before .pre in
     let o = refusal-none _ (p .0 .fit) in
     pending-shared (now (a .state)) (o .1) (p .0 .stage-most) _ _ _ _ _ (now (a .table)) _ _ (c .before .before .before .before .before .before .before .before .before .before .before .before .before .before .before .before .before .intertie-count .ensures) (c .before .before .before .before .before .before .before .before .before .before .before .before .before .before .before .before .holder-count .ensures)
-    (c .before .before .before .before .before .before .before .before .before .before .before .before .before .before .add-row .ensures) (c .before .before .before .before .before .before .before .before .before .before .before .add-pairs .ensures) (omega (arith, c .before .before .before .before .before .before .before .before .before .before .before .add-pairs .kept .1 .1 .1 .1 .0, length-zeros 1536)) (c .before .before .before .before .before .before .before .before .weigh .ensures) (p .1)
+    (c .before .before .before .before .before .before .before .before .before .before .before .before .before .before .read-row .ensures) (c .before .before .before .before .before .before .before .before .before .before .before .read-pairs .ensures) (omega (arith, c .before .before .before .before .before .before .before .before .before .before .before .read-pairs .kept .1 .1 .1 .1 .0, length-zeros 1536)) (c .before .before .before .before .before .before .before .before .weigh .ensures) (p .1)
     (c .before .before .share-out-each .ensures .0) (c .before .before .share-out-each .ensures .1)
 
 pub share-out-pending-spec : {M : Type 1} → statement M
@@ -76,12 +76,12 @@ share-out-pending-spec =
     (tie.spec
     intertie-count-requires
     holder-count-requires
-    cast-add-row
-    slice-aggregate-add-row
-    add-row-requires
-    cast-add-pairs
-    slice-aggregate-add-pairs
-    add-pairs-requires
+    cast-read-row
+    slice-aggregate-read-row
+    read-row-requires
+    cast-read-pairs
+    slice-aggregate-read-pairs
+    read-pairs-requires
     slice-aggregate-weigh
     weigh-requires
     slice-aggregate-share-out-each

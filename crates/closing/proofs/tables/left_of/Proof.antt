@@ -1,12 +1,12 @@
 -- `left_of` meets its contract: after c turns the first c numbers are taken off.
 use Prim.Native.Nat.{ℕ, _+_, _-_, _≤_}
-use mathlib.Core.Path.{_≡_, ap, _∙_}
+use mathlib.Core.Path.{_≡_, refl, ap, _∙_}
 use mathlib.Core.List.{List}
 use native.Mathlib.Omega.{arith}
 use denote.Ref.{now}
 use Rattle.base.specs.Words.{at}
 use Rattle.base.specs.Sums.{sumTo}
-use Rattle.closing.proofs.TableLaws.{less-none, less-more}
+use Rattle.closing.proofs.TableLaws.{less-none, less-more, next-within}
 use Rattle.closing.proofs.tables.left_of.Statement.{statement}
 use Rattle.closing.proofs.tables.left_of.Tie as tie
 use borrow.Author.Needs.{needs}
@@ -23,17 +23,24 @@ abbrev μ-loop : tie.MeasureT-loop
 loop-holds : tie.Need-loop-holds Inv-loop μ-loop
 loop-holds c = (search needs, less-none _ _)
 
-add-excess : tie.Need-add-excess Inv-loop μ-loop
-add-excess c = search needs
+add-left : tie.Need-add-left Inv-loop μ-loop
+add-left c = search needs
 
-mul-excess : tie.Need-mul-excess Inv-loop μ-loop
-mul-excess c = search needs
+mul-left : tie.Need-mul-left Inv-loop μ-loop
+mul-left c = search needs
 
-shared-slice-read-excess : tie.Need-shared-slice-read-excess Inv-loop μ-loop
-shared-slice-read-excess c = search needs
+shared-slice-read-left : tie.Need-shared-slice-read-left Inv-loop μ-loop
+shared-slice-read-left c = search needs
 
-excess-requires : tie.Need-excess-requires Inv-loop μ-loop
-excess-requires c κs = search needs
+sub-left : tie.Need-sub-left Inv-loop μ-loop
+sub-left c =
+    let s = c .before .before .before in
+    let l = c .before .before .loop in
+    omega (
+      arith,
+      l .inv .1,
+      next-within (s .args .start) (s .args .count) (l .c) (word (now (s .args .table)) (s .args .from)) (s .pre .1) (c .before .loop-test .taken),
+    )
 
 add-c : tie.Need-add-c Inv-loop μ-loop
 add-c c = search needs
@@ -43,14 +50,13 @@ loop-less c = search needs
 
 loop-again : tie.Need-loop-again Inv-loop μ-loop
 loop-again c =
-    let a = c .before .before .before .before .before .args in (
-      search needs,
-      less-more (a .start) _ (c .before .before .before .loop .c) _ (word (now (a .table)) (a .from)) (c .before .before .before .loop .inv .1) (c .excess .ensures),
-    )
+    let a = c .before .before .before .args in
+    let l = c .before .before .loop in
+    (search needs, less-more (a .start) _ (l .c) _ (word (now (a .table)) (a .from)) (l .inv .1) refl)
 
 returns : tie.Need-returns Inv-loop μ-loop
 returns c =
-    let a = c .before .before .before .args in
+    let a = c .before .before .args in
     let end : c .before .loop .c ≡ a .count = omega arith in
     c .before .loop .inv .1 ∙ ap (λ n. a .start - sumTo n (word (now (a .table)) (a .from))) end
 
@@ -61,10 +67,10 @@ left-of-spec =
     Inv-loop
     μ-loop
     loop-holds
-    add-excess
-    mul-excess
-    shared-slice-read-excess
-    excess-requires
+    add-left
+    mul-left
+    shared-slice-read-left
+    sub-left
     add-c
     loop-less
     loop-again

@@ -1,6 +1,6 @@
 -- `take_off` meets its contract: after c turns the first c numbers are lowered.
 use Prim.Native.Nat.{ℕ, _+_, _-_, _≤_}
-use mathlib.Core.Path.{_≡_, refl, sym, ap, _∙_}
+use mathlib.Core.Path.{_≡_, refl, sym, ap}
 use mathlib.Core.List.{List}
 use native.Mathlib.Omega.{arith}
 use lib.ListN.{length, length-set}
@@ -26,26 +26,30 @@ abbrev μ-loop : tie.MeasureT-loop
 loop-holds : tie.Need-loop-holds Inv-loop μ-loop
 loop-holds c = (search needs, refl, sym (fill-zero _ _))
 
-mul-excess : tie.Need-mul-excess Inv-loop μ-loop
-mul-excess c = search needs
-
-slice-read-excess : tie.Need-slice-read-excess Inv-loop μ-loop
-slice-read-excess c = search needs
-
-add-excess : tie.Need-add-excess Inv-loop μ-loop
-add-excess c = search needs
-
-mul-excess-2 : tie.Need-mul-excess-2 Inv-loop μ-loop
-mul-excess-2 c = search needs
-
-shared-slice-read-excess : tie.Need-shared-slice-read-excess Inv-loop μ-loop
-shared-slice-read-excess c = search needs
-
-excess-requires : tie.Need-excess-requires Inv-loop μ-loop
-excess-requires c κs = search needs
+add-row : tie.Need-add-row Inv-loop μ-loop
+add-row c = search needs
 
 mul-row : tie.Need-mul-row Inv-loop μ-loop
 mul-row c = search needs
+
+shared-slice-read-row : tie.Need-shared-slice-read-row Inv-loop μ-loop
+shared-slice-read-row c = search needs
+
+mul-row-2 : tie.Need-mul-row-2 Inv-loop μ-loop
+mul-row-2 c = search needs
+
+slice-read-row : tie.Need-slice-read-row Inv-loop μ-loop
+slice-read-row c = search needs
+
+sub-row : tie.Need-sub-row Inv-loop μ-loop
+sub-row c =
+    let s = c .before .before .before .before in
+    let l = c .before .before .before .loop in
+    omega (
+      arith,
+      s .pre .2 (l .c) (c .before .before .loop-test .taken),
+      fill-place (l .c) (word (now (s .args .table)) (s .args .from) (now (s .args .row))) (now (s .args .row)) (l .inv .2),
+    )
 
 slice-write-row : tie.Need-slice-write-row Inv-loop μ-loop
 slice-write-row c = search needs
@@ -58,13 +62,12 @@ loop-less c = search needs
 
 loop-again : tie.Need-loop-again Inv-loop μ-loop
 loop-again c =
-    let a = c .before .before .before .before .before .before .before .args in
-    let k = c .before .before .before .before .loop .c in
+    let a = c .before .before .before .before .args in
+    let l = c .before .before .before .loop in
     let f = word (now (a .table)) (a .from) (now (a .row)) in (
       search needs,
-      simp length-set (c .before .before .before .before .loop .inv .1),
-      fill-turn k f (now (a .row)) (c .before .before .before .before .loop .inv .2)
-          (c .excess .ensures ∙ ap (λ x. x - at (now (a .table)) (a .from + k)) (fill-place k f (now (a .row)) (c .before .before .before .before .loop .inv .2))),
+      simp length-set (l .inv .1),
+      fill-turn (l .c) f (now (a .row)) (l .inv .2) (ap (λ x. x - at (now (a .table)) (a .from + l .c)) (fill-place (l .c) f (now (a .row)) (l .inv .2))),
     )
 
 same-length : tie.Need-same-length Inv-loop μ-loop
@@ -72,7 +75,7 @@ same-length c = c .before .loop .inv .1
 
 returns : tie.Need-returns Inv-loop μ-loop
 returns c =
-    let a = c .before .before .before .before .args in
+    let a = c .before .before .args in
     fill-end (a .count) (c .before .loop .c) (word (now (a .table)) (a .from) (now (a .row))) (now (a .row)) (c .before .loop .inv .2) (c .before .loop .inv .0) (omega arith)
 
 pub take-off-spec : {M : Type 1} → statement M
@@ -82,13 +85,12 @@ take-off-spec =
     Inv-loop
     μ-loop
     loop-holds
-    mul-excess
-    slice-read-excess
-    add-excess
-    mul-excess-2
-    shared-slice-read-excess
-    excess-requires
+    add-row
     mul-row
+    shared-slice-read-row
+    mul-row-2
+    slice-read-row
+    sub-row
     slice-write-row
     add-c
     loop-less

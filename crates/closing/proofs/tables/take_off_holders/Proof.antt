@@ -6,7 +6,7 @@ use denote.Ref.{now}
 use Rattle.base.specs.Sums.{sumTo}
 use Rattle.base.specs.Words.{at}
 use Rattle.interties.specs.Pairs.{atPair}
-use Rattle.closing.proofs.TableLaws.{Lowered, lowered-none, lowered-next}
+use Rattle.closing.proofs.TableLaws.{Lowered, lowered-none, lowered-next, next-within}
 use Rattle.closing.proofs.tables.take_off_holders.Statement.{statement}
 use Rattle.closing.proofs.tables.take_off_holders.Tie as tie
 use borrow.Author.Needs.{needs}
@@ -25,8 +25,18 @@ mul-take-off c = search needs
 
 take-off-requires : tie.Need-take-off-requires Inv-loop μ-loop
 take-off-requires c κs =
-    let r = c .before .before .loop .inv .1 in
-    (omega arith, omega (arith, r .size))
+    let s = c .before .before .before .before .before in
+    let m = c .before .before .loop .holder in
+    let r = c .before .before .loop .inv .1 in (
+      omega arith,
+      omega (arith, r .size),
+      λ i l.
+          omega (
+            arith,
+            r .left i l,
+            next-within (at (now (s .args .row)) i) (s .args .holders) m (λ h. atPair (now (s .args .table)) h i) (s .pre .4 i l) (c .before .loop-test .taken),
+          ),
+    )
 
 add-holder : tie.Need-add-holder Inv-loop μ-loop
 add-holder c = search needs

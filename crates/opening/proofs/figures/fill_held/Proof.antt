@@ -1,37 +1,26 @@
 -- `fill_held` meets its contract: after h turns the first h holders have theirs.
-use Prim.Native.Nat.{ℕ, _+_, _-_, _<_}
-use mathlib.Core.List.{List}
+use Prim.Native.Nat.{_-_}
 use native.Mathlib.Omega.{arith}
 use lib.ListN.{length}
 use denote.Ref.{now}
-use Rattle.base.specs.Sums.{sumTo}
-use Rattle.base.specs.Words.{at}
-use Rattle.opening.specs.Vectors.{pairAt}
-use Rattle.opening.proofs.VectorLaws.{Filling, filling-none, filling-next, filling-all}
+use Rattle.reserving.proofs.VectorLaws.{Filling, filling-none, filling-next, filling-all}
+use Rattle.opening.specs.Figures.{heldFrom}
+use Rattle.opening.proofs.FigureLaws.{first-holders}
 use borrow.Author.Needs.{needs}
 use Rattle.opening.proofs.figures.fill_held.Statement.{statement}
 use Rattle.opening.proofs.figures.fill_held.Tie as tie
 
--- what a holder has in the three tables
-abbrev of : ℕ → List ℕ → List ℕ → List ℕ → ℕ → ℕ
-of interties existing preRa newUse h =
-    sumTo interties (λ i. at existing (pairAt h i)) + sumTo interties (λ i. at preRa (pairAt h i)) + sumTo interties (λ i. at newUse (pairAt h i))
-
 abbrev Inv-loop : tie.InvT-loop
-Inv-loop interties existing pre-ra new-use held₀ holder₀ held holder = Filling (of interties existing pre-ra new-use) held₀ held holder
+Inv-loop kw interties pre-ra new-use held₀ holder₀ held holder = Filling (heldFrom interties kw pre-ra new-use) held₀ held holder
 
 abbrev μ-loop : tie.MeasureT-loop
-μ-loop interties existing pre-ra new-use held₀ holder₀ held holder = length held₀ - holder
+μ-loop kw interties pre-ra new-use held₀ holder₀ held holder = length held₀ - holder
 
 loop-holds : tie.Need-loop-holds Inv-loop μ-loop
 loop-holds c = filling-none _ _
 
 held-by-requires : tie.Need-held-by-requires Inv-loop μ-loop
-held-by-requires c κs =
-    let p = c .before .before .before .before .before .before .pre in
-    let h = c .before .loop .holder in
-    let l : h < length (now (c .before .before .before .before .before .before .args .held)) = omega arith in
-    (p .0, omega arith, p .2, p .3, p .4, (λ i m. p .5 h i l m), (λ i m. p .6 h i l m), (λ i m. p .7 h i l m))
+held-by-requires c κs = first-holders _ _ _ _ _ _ (c .before .before .before .before .before .before .pre) (omega arith)
 
 mul-held : tie.Need-mul-held Inv-loop μ-loop
 mul-held c = search needs
@@ -48,7 +37,7 @@ loop-less c = search needs
 loop-again : tie.Need-loop-again Inv-loop μ-loop
 loop-again c =
     let a = c .before .before .before .before .before .before .before .args in
-    filling-next (of (a .interties) (now (a .existing)) (now (a .pre-ra)) (now (a .new-use))) _ _ _ _ (c .before .before .loop .inv) (omega arith) (c .held-by .ensures)
+    filling-next (heldFrom (a .interties) (now (a .kw)) (now (a .pre-ra)) (now (a .new-use))) _ _ _ _ (c .before .before .loop .inv) (omega arith) (c .held-by .ensures)
 
 same-length : tie.Need-same-length Inv-loop μ-loop
 same-length c = c .before .loop .inv .size

@@ -6,7 +6,7 @@ use native.Mathlib.Omega.{arith}
 use lib.ListN.{length}
 use denote.Ref.{now}
 use Rattle.base.specs.Words.{at}
-use Rattle.opening.proofs.VectorLaws.{Filling, filling-none, filling-next, filling-all}
+use Rattle.reserving.proofs.VectorLaws.{Filling, filling-none, filling-next, filling-all}
 use borrow.Author.Needs.{needs}
 use Rattle.opening.proofs.figures.fill_totals.Statement.{statement}
 use Rattle.opening.proofs.figures.fill_totals.Tie as tie

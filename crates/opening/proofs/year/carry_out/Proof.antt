@@ -1,87 +1,75 @@
--- `carry_out` meets its contract: rows of its own are lent at their exact lengths (`OpenLaws`).
+-- `carry_out` meets its contract: each step is handed what the one before left (`OpenLaws`).
 use mathlib.Core.Path.{sym}
+use lib.ListN.{length}
 use denote.Ref.{now}
-use Rattle.opening.proofs.OpenLaws.{front-size, lent-given, lent-opened}
+use Rattle.opening.proofs.OpenLaws.{front-size, total-is, pre-ra-size, new-use-size, held-given, year-opened}
 use borrow.Author.Needs.{needs}
 use Rattle.opening.proofs.year.carry_out.Statement.{statement}
 use Rattle.opening.proofs.year.carry_out.Tie as tie
 
-array-borrow-prefix-pools : tie.Need-array-borrow-prefix-pools
-array-borrow-prefix-pools c = search needs
+reserve-requires : tie.Need-reserve-requires
+reserve-requires c κs = search needs
 
-slice-aggregate-open-year : tie.Need-slice-aggregate-open-year
-slice-aggregate-open-year c = sym (front-size _ 48 (c .before .before .before .before .before .pre .0 .interties-most))
+slice-aggregate-steps-5-to-7 : tie.Need-slice-aggregate-steps-5-to-7
+slice-aggregate-steps-5-to-7 c =
+    let a = c .before .before .before .before .before .before .before .args in
+    sym (pre-ra-size (now (a .kw)) (now (a .ties)) (a .interties) (a .holders) (c .before .before .before .before .before .before .before .pre .0) (search needs) _ _ _ _ (c .before .before .reserve .ensures))
 
-array-borrow-prefix-loads : tie.Need-array-borrow-prefix-loads
-array-borrow-prefix-loads c = search needs
-
-slice-aggregate-open-year-2 : tie.Need-slice-aggregate-open-year-2
-slice-aggregate-open-year-2 c = sym (front-size _ 32 (c .before .before .before .before .before .before .pre .0 .holders-most))
-
-array-borrow-prefix-quantities : tie.Need-array-borrow-prefix-quantities
-array-borrow-prefix-quantities c = search needs
-
-slice-aggregate-open-year-3 : tie.Need-slice-aggregate-open-year-3
-slice-aggregate-open-year-3 c = sym (front-size _ 32 (c .before .before .before .before .before .before .before .pre .0 .holders-most))
-
-slice-aggregate-open-year-4 : tie.Need-slice-aggregate-open-year-4
-slice-aggregate-open-year-4 c = search needs
-
-slice-aggregate-open-year-5 : tie.Need-slice-aggregate-open-year-5
-slice-aggregate-open-year-5 c = search needs
-
-slice-aggregate-open-year-6 : tie.Need-slice-aggregate-open-year-6
-slice-aggregate-open-year-6 c = search needs
+slice-aggregate-steps-5-to-7-2 : tie.Need-slice-aggregate-steps-5-to-7-2
+slice-aggregate-steps-5-to-7-2 c =
+    let a = c .before .before .before .before .before .before .before .before .args in
+    sym (new-use-size (now (a .kw)) (now (a .ties)) (a .interties) (a .holders) (c .before .before .before .before .before .before .before .before .pre .0) (search needs) _ _ _ _ (c .before .before .before .reserve .ensures))
 
 array-borrow-prefix-held : tie.Need-array-borrow-prefix-held
-array-borrow-prefix-held c = search needs
+array-borrow-prefix-held c = c .before .before .before .before .before .before .before .before .pre .0 .holders-most
 
-slice-aggregate-open-year-7 : tie.Need-slice-aggregate-open-year-7
-slice-aggregate-open-year-7 c = sym (front-size _ 32 (c .before .before .before .before .before .before .before .before .before .before .before .pre .0 .holders-most))
+slice-aggregate-steps-5-to-7-3 : tie.Need-slice-aggregate-steps-5-to-7-3
+slice-aggregate-steps-5-to-7-3 c = sym (front-size _ 32 (c .before .before .before .before .before .before .before .before .before .pre .0 .holders-most))
 
 array-borrow-prefix-shares : tie.Need-array-borrow-prefix-shares
-array-borrow-prefix-shares c = search needs
+array-borrow-prefix-shares c = c .before .before .before .before .before .before .before .before .before .pre .0 .holders-most
 
-slice-aggregate-open-year-8 : tie.Need-slice-aggregate-open-year-8
-slice-aggregate-open-year-8 c = sym (front-size _ 32 (c .before .before .before .before .before .before .before .before .before .before .before .before .pre .0 .holders-most))
+slice-aggregate-steps-5-to-7-4 : tie.Need-slice-aggregate-steps-5-to-7-4
+slice-aggregate-steps-5-to-7-4 c = sym (front-size _ 32 (c .before .before .before .before .before .before .before .before .before .before .pre .0 .holders-most))
 
 array-borrow-prefix-totals : tie.Need-array-borrow-prefix-totals
-array-borrow-prefix-totals c = search needs
+array-borrow-prefix-totals c = c .before .before .before .before .before .before .before .before .before .before .pre .0 .holders-most
 
-slice-aggregate-open-year-9 : tie.Need-slice-aggregate-open-year-9
-slice-aggregate-open-year-9 c = sym (front-size _ 32 (c .before .before .before .before .before .before .before .before .before .before .before .before .before .pre .0 .holders-most))
+slice-aggregate-steps-5-to-7-5 : tie.Need-slice-aggregate-steps-5-to-7-5
+slice-aggregate-steps-5-to-7-5 c = sym (front-size _ 32 (c .before .before .before .before .before .before .before .before .before .before .before .pre .0 .holders-most))
 
-open-year-requires : tie.Need-open-year-requires
-open-year-requires c κs = lent-given _ _ _ _ _ (c .before .before .before .before .before .before .before .before .before .before .before .before .before .pre .0) (c .before .before .before .before .before .before .before .before .before .before .before .before .before .pre .1) (c .before .before .before .before .before .before .before .before .before .before .before .before .before .pre .2) (c .before .before .before .before .before .before .before .before .before .before .before .before .before .pre .3)
+steps-5-to-7-requires : tie.Need-steps-5-to-7-requires
+steps-5-to-7-requires c κs =
+    let a = c .before .before .before .before .before .before .before .before .before .before .before .args in
+    held-given (now (a .kw)) (now (a .ties)) (a .interties) (a .holders) (c .before .before .before .before .before .before .before .before .before .before .before .pre .0) (search needs) _ _ _ _ (c .before .before .before .before .before .before .reserve .ensures)
+
+write-state-requires : tie.Need-write-state-requires
+write-state-requires c κs = search needs
 
 same-length : tie.Need-same-length
 same-length c = search needs
 
 returns : tie.Need-returns
 returns c =
-    let a = c .before .before .before .before .before .before .before .before .before .before .before .before .before .before .before .before .before .before .before .before .before .before .before .before .before .args in
-    let p = c .before .before .before .before .before .before .before .before .before .before .before .before .before .before .before .before .before .before .before .before .before .before .before .before .before .pre in
-    lent-opened (a .interties) (a .holders) (now (a .kw)) (now (a .ties)) (now (a .state)) (p .0) (p .1) (p .2) (p .3) _ _ (c .before .before .before .before .before .before .before .before .before .before .before .open-year .ensures)
+    let a = c .before .before .before .before .before .before .before .before .before .before .before .before .before .before .before .before .before .before .before .before .before .before .before .before .before .args in (
+      total-is (now (a .kw)) (now (a .ties)) (a .interties) (a .holders) (c .before .before .before .before .before .before .before .before .before .before .before .before .before .before .before .before .before .before .before .before .before .before .before .before .before .pre .0) (search needs) _ _ _ _ (c .before .before .before .before .before .before .before .before .before .before .before .before .before .before .before .before .before .before .before .before .reserve .ensures),
+      year-opened (now (a .kw)) (now (a .ties)) (a .interties) (a .holders) (c .before .before .before .before .before .before .before .before .before .before .before .before .before .before .before .before .before .before .before .before .before .before .before .before .before .pre .0) (search needs) _ _ _ _ (c .before .before .before .before .before .before .before .before .before .before .before .before .before .before .before .before .before .before .before .before .reserve .ensures) _ _ _ (c .before .before .before .before .before .before .before .before .before .before .before .before .before .steps-5-to-7 .ensures) _ _ _ (c .before .before .before .before .before .before .before .before .before .before .before .before .before .before .before .before .before .before .before .before .before .before .before .before .before .pre .1) (c .before .before .write-state .ensures),
+    )
 
 pub carry-out-spec : {M : Type 1} → statement M
 carry-out-spec =
     tie.close
     (tie.spec
-    array-borrow-prefix-pools
-    slice-aggregate-open-year
-    array-borrow-prefix-loads
-    slice-aggregate-open-year-2
-    array-borrow-prefix-quantities
-    slice-aggregate-open-year-3
-    slice-aggregate-open-year-4
-    slice-aggregate-open-year-5
-    slice-aggregate-open-year-6
+    reserve-requires
+    slice-aggregate-steps-5-to-7
+    slice-aggregate-steps-5-to-7-2
     array-borrow-prefix-held
-    slice-aggregate-open-year-7
+    slice-aggregate-steps-5-to-7-3
     array-borrow-prefix-shares
-    slice-aggregate-open-year-8
+    slice-aggregate-steps-5-to-7-4
     array-borrow-prefix-totals
-    slice-aggregate-open-year-9
-    open-year-requires
+    slice-aggregate-steps-5-to-7-5
+    steps-5-to-7-requires
+    write-state-requires
     same-length
     returns)

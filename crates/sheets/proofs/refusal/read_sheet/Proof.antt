@@ -40,13 +40,20 @@ returns-2 c =
     let long = c .before .before .before .before in
     read-sheet-2 _ _ _ _ _ _ (long .before .bad-length .ensures) (long .if1 .left) (sizes (c .before)) (c .if2 .taken)
 
+find-slots-requires : tie.Need-find-slots-requires
+find-slots-requires c κs = (passed (c .before) .0, search needs)
+
+place-records-requires : tie.Need-place-records-requires
+place-records-requires c κs = (passed (c .before .before .before .before .before) .0, c .before .before .before .find-slots .ensures, refl)
+
 read-sized-requires : tie.Need-read-sized-requires
-read-sized-requires c κs = let p = passed (c .before .before .before .before .before .before) in (p .0, p .1, record { no-records = refl; no-kw = refl; no-interties = refl })
+read-sized-requires c κs = let p = passed (c .before .before .before .before .before .before .before .before .before .before .before) in (p .0, p .1, c .before .before .before .before .before .before .before .before .before .find-slots .ensures, refl, refl)
 
 returns-3 : tie.Need-returns-3
 returns-3 c =
-    let p = passed (c .before .before .before .before .before .before .before) in
-    read-sheet-filled _ _ _ _ _ _ _ _ (p .0) (p .1) (c .read-sized .ensures .0) (c .read-sized .ensures .1)
+    let p = passed (c .before .before .before .before .before .before .before .before .before .before .before .before) in
+    read-sheet-filled _ _ _ _ _ _ _ _ (p .0) (p .1) (c .read-sized .ensures .0)
+    (record { counted = c .read-sized .ensures .1; summed = c .read-sized .ensures .2; placed = c .before .before .before .before .before .before .place-records .ensures })
 
 pub read-sheet-spec : {M : Type 1} → statement M
 read-sheet-spec =
@@ -58,5 +65,7 @@ read-sheet-spec =
     word-requires-2
     bad-sizes-requires
     returns-2
+    find-slots-requires
+    place-records-requires
     read-sized-requires
     returns-3)

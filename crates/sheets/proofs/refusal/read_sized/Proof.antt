@@ -22,14 +22,22 @@ word-requires-2 c κs = omega (arith, whole _ _ (c .before .before .pre .0) refl
 cast-holder-count : tie.Need-cast-holder-count
 cast-holder-count c = search needs
 
-fill-tables-requires : tie.Need-fill-tables-requires
-fill-tables-requires c κs = search needs
+records-stand-requires : tie.Need-records-stand-requires
+records-stand-requires c κs = search needs
 
--- before the tables were filled: the two words that were read, and the function's entry
-abbrev words : tie.After-fill-tables → tie.After-word2
-words c = c .before .before .before .before
+add-records-requires : tie.Need-add-records-requires
+add-records-requires c κs =
+    let pre = c .before .before .before .before .before .before .pre in
+    (pre .0, pre .2, pre .3, pre .4)
 
-abbrev entry : tie.After-fill-tables → tie.Start
+-- before the tables were filled: the test of each record, the two words that were read, and the function's entry
+abbrev tested : tie.After-add-records → tie.After-records-stand
+tested c = c .before .before .before
+
+abbrev words : tie.After-add-records → tie.After-word2
+words c = tested c .before
+
+abbrev entry : tie.After-add-records → tie.Start
 entry c = words c .before .before .before
 
 rules-hold-requires : tie.Need-rules-hold-requires
@@ -45,12 +53,12 @@ limits-hold-requires c κs =
     let sizes = sized _ (pre .1) in (
       omega (arith, sizes, read .word2 .ensures),
       omega (arith, sizes, read .before .word .ensures),
-      rw (filled .fill-tables .ensures .1 .summed)
+      rw (filled .add-records .ensures .1)
           (modest _ (whole _ _ (pre .0) refl .few) (λ i. read .before .before .shared-slice-known .given i .fits)),
     )
 
 -- where both tests are made, and the tables before them
-abbrev filledAt : tie.After-limits-hold → tie.After-fill-tables
+abbrev filledAt : tie.After-limits-hold → tie.After-add-records
 filledAt c = c .before .before .before .before
 
 -- the test of number 3 is that of the rules
@@ -60,7 +68,7 @@ rules c =
     let pre = entry filled .pre in
     let read = words filled in
     rules-decided _ (pre .0) (pre .1) _ _ (read .word2 .ensures) (read .before .word .ensures)
-    _ _ _ (filled .fill-tables .ensures .0) (filled .fill-tables .ensures .1 .counted) (c .before .before .rules-hold .ensures)
+    _ _ _ (tested filled .records-stand .ensures) (filled .add-records .ensures .0) (c .before .before .rules-hold .ensures)
 
 -- the test of number 4 is that of the limits
 limits : (c : tie.After-limits-hold) → c .limits-hold .result ≡ limitsHold (now (entry (filledAt c) .args .sheet))
@@ -69,28 +77,30 @@ limits c =
     let pre = entry filled .pre in
     let read = words filled in
     limits-decided _ (pre .0) (pre .1) _ _ (read .word2 .ensures) (read .before .word .ensures)
-    _ _ (filled .fill-tables .ensures .1 .summed) (c .limits-hold .ensures)
+    _ _ (filled .add-records .ensures .1) (c .limits-hold .ensures)
 
 returns : tie.Need-returns
 returns c =
-    let tested = c .before in
-    let pre = entry (filledAt tested) .pre in
-    (refused-3 _ (pre .0) (pre .1) _ (rules tested) (not-true _ (c .if1 .taken)), filledAt tested .fill-tables .ensures .1)
+    let decided = c .before in
+    let pre = entry (filledAt decided) .pre in
+    (refused-3 _ (pre .0) (pre .1) _ (rules decided) (not-true _ (c .if1 .taken)), filledAt decided .add-records .ensures .0, filledAt decided .add-records .ensures .1)
 
 returns-2 : tie.Need-returns-2
 returns-2 c =
-    let tested = c .before .before in
-    let pre = entry (filledAt tested) .pre in (
-      refused-4 _ (pre .0) (pre .1) _ _ (rules tested) (not-false _ (c .before .if1 .left)) (limits tested) (not-true _ (c .if2 .taken)),
-      filledAt tested .fill-tables .ensures .1,
+    let decided = c .before .before in
+    let pre = entry (filledAt decided) .pre in (
+      refused-4 _ (pre .0) (pre .1) _ _ (rules decided) (not-false _ (c .before .if1 .left)) (limits decided) (not-true _ (c .if2 .taken)),
+      filledAt decided .add-records .ensures .0,
+      filledAt decided .add-records .ensures .1,
     )
 
 returns-3 : tie.Need-returns-3
 returns-3 c =
-    let tested = c .before .before in
-    let pre = entry (filledAt tested) .pre in (
-      stands _ (pre .0) (pre .1) _ _ (rules tested) (not-false _ (c .before .if1 .left)) (limits tested) (not-false _ (c .if2 .left)),
-      filledAt tested .fill-tables .ensures .1,
+    let decided = c .before .before in
+    let pre = entry (filledAt decided) .pre in (
+      stands _ (pre .0) (pre .1) _ _ (rules decided) (not-false _ (c .before .if1 .left)) (limits decided) (not-false _ (c .if2 .left)),
+      filledAt decided .add-records .ensures .0,
+      filledAt decided .add-records .ensures .1,
     )
 
 pub read-sized-spec : {M : Type 1} → statement M
@@ -101,7 +111,8 @@ read-sized-spec =
     cast-intertie-count
     word-requires-2
     cast-holder-count
-    fill-tables-requires
+    records-stand-requires
+    add-records-requires
     rules-hold-requires
     limits-hold-requires
     returns

@@ -35,14 +35,17 @@ returns-2 c =
     let long = c .before .before .before .before in
     read-sheet-2 _ [] [] [] _ _ (long .before .bad-length .ensures) (long .if1 .left) (sizes (c .before)) (c .if2 .taken) .answer
 
+-- past numbers 1 and 2
+passed : (c : tie.Else2) → (badLength (now (c .before .before .before .before .before .before .before .args .sheet)) ≡ false) × (badSizes (now (c .before .before .before .before .before .before .before .args .sheet)) ≡ false)
+passed c =
+    let long = c .before .before .before .before in
+    (sym (long .before .bad-length .ensures) ∙ long .if1 .left, sym (sizes (c .before)) ∙ c .if2 .left)
+
+find-slots-requires : tie.Need-find-slots-requires
+find-slots-requires c κs = (passed (c .before) .0, search needs)
+
 read-sized-requires : tie.Need-read-sized-requires
-read-sized-requires c κs =
-    let passed = c .before .before .before in
-    let long = passed .before .before .before .before in (
-      sym (long .before .bad-length .ensures) ∙ long .if1 .left,
-      sym (sizes (passed .before)) ∙ passed .if2 .left,
-      record { no-records = refl; no-kw = refl; no-interties = refl },
-    )
+read-sized-requires c κs = let p = passed (c .before .before .before .before .before) in (p .0, p .1, c .before .before .before .find-slots .ensures, refl, refl)
 
 returns-3 : tie.Need-returns-3
 returns-3 c = c .read-sized .ensures .0
@@ -57,5 +60,6 @@ sheet-refusal-spec =
     word-requires-2
     bad-sizes-requires
     returns-2
+    find-slots-requires
     read-sized-requires
     returns-3)

@@ -1,6 +1,6 @@
--- `sheets::rules::record_stands` meets its contract: each arm of the match is the rule of its kinds.
+-- `sheets::rules::record_stands` meets its contract: what the kind says of each field and of the quantity is its rule.
 use borrow.Author.Needs.{needs}
-use Rattle.sheets.proofs.RuleLaws.{limit-rule, outside-rule, load-share-rule, contract-rule, new-use-rule, no-rule-0, no-rule}
+use Rattle.sheets.proofs.RuleLaws.{record-rule}
 use Rattle.sheets.proofs.rules.record_stands.Statement.{statement}
 use Rattle.sheets.proofs.rules.record_stands.Tie as tie
 
@@ -19,26 +19,35 @@ rank-requires c κs = search needs
 years-requires : tie.Need-years-requires
 years-requires c κs = search needs
 
+names-holder-requires : tie.Need-names-holder-requires
+names-holder-requires c κs = search needs
+
+field-stands-requires : tie.Need-field-stands-requires
+field-stands-requires c κs = search needs
+
+names-intertie-requires : tie.Need-names-intertie-requires
+names-intertie-requires c κs = search needs
+
+field-stands-requires-2 : tie.Need-field-stands-requires-2
+field-stands-requires-2 c κs = search needs
+
+names-rank-requires : tie.Need-names-rank-requires
+names-rank-requires c κs = search needs
+
+field-stands-requires-3 : tie.Need-field-stands-requires-3
+field-stands-requires-3 c κs = search needs
+
+names-years-requires : tie.Need-names-years-requires
+names-years-requires c κs = search needs
+
+field-stands-requires-4 : tie.Need-field-stands-requires-4
+field-stands-requires-4 c κs = search needs
+
+quantity-stands-requires : tie.Need-quantity-stands-requires
+quantity-stands-requires c κs = search needs
+
 returns : tie.Need-returns
-returns c = search (needs, limit-rule)
-
-returns-2 : tie.Need-returns-2
-returns-2 c = search (needs, outside-rule)
-
-returns-3 : tie.Need-returns-3
-returns-3 c = search (needs, load-share-rule)
-
-returns-4 : tie.Need-returns-4
-returns-4 c = search (needs, new-use-rule)
-
-returns-5 : tie.Need-returns-5
-returns-5 c = search (needs, contract-rule)
-
-returns-6 : tie.Need-returns-6
-returns-6 c = search (needs, no-rule-0)
-
-returns-7 : tie.Need-returns-7
-returns-7 c = search (needs, no-rule)
+returns c = search (needs, record-rule)
 
 pub record-stands-spec : {M : Type 1} → statement M
 record-stands-spec =
@@ -49,10 +58,13 @@ record-stands-spec =
     intertie-requires
     rank-requires
     years-requires
-    returns
-    returns-2
-    returns-3
-    returns-4
-    returns-5
-    returns-6
-    returns-7)
+    names-holder-requires
+    field-stands-requires
+    names-intertie-requires
+    field-stands-requires-2
+    names-rank-requires
+    field-stands-requires-3
+    names-years-requires
+    field-stands-requires-4
+    quantity-stands-requires
+    returns)

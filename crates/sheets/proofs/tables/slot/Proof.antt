@@ -1,90 +1,107 @@
--- `sheets::tables::slot` meets its contract: each arm of the match gives the slot of its kinds.
+-- `sheets::tables::slot` meets its contract: the choices are those of the definition.
 use borrow.Author.Needs.{needs}
-use Rattle.sheets.proofs.SlotLaws.{slot-by-kind}
+use Rattle.sheets.specs.Tables.{slot}
 use Rattle.sheets.proofs.tables.slot.Statement.{statement}
 use Rattle.sheets.proofs.tables.slot.Tie as tie
 
-add-result : tie.Need-add-result
-add-result c = search needs
+cast-either : tie.Need-cast-either
+cast-either c = search needs
 
-add-result-2 : tie.Need-add-result-2
-add-result-2 c = search needs
+mul-either : tie.Need-mul-either
+mul-either c = search needs
+
+add-either : tie.Need-add-either
+add-either c = search needs
+
+add-either-2 : tie.Need-add-either-2
+add-either-2 c = search needs
+
+either-requires : tie.Need-either-requires
+either-requires c κs = search needs
+
+cast-either-2 : tie.Need-cast-either-2
+cast-either-2 c = search needs
+
+mul-either-2 : tie.Need-mul-either-2
+mul-either-2 c = search needs
+
+add-either-3 : tie.Need-add-either-3
+add-either-3 c = search needs
+
+add-either-4 : tie.Need-add-either-4
+add-either-4 c = search needs
+
+either-requires-2 : tie.Need-either-requires-2
+either-requires-2 c κs = search needs
+
+cast-either-3 : tie.Need-cast-either-3
+cast-either-3 c = search needs
+
+mul-either-3 : tie.Need-mul-either-3
+mul-either-3 c = search needs
+
+add-either-5 : tie.Need-add-either-5
+add-either-5 c = search needs
+
+add-either-6 : tie.Need-add-either-6
+add-either-6 c = search needs
+
+either-requires-3 : tie.Need-either-requires-3
+either-requires-3 c κs = search needs
+
+either-requires-4 : tie.Need-either-requires-4
+either-requires-4 c κs = search needs
+
+cast-either-4 : tie.Need-cast-either-4
+cast-either-4 c = search needs
+
+add-either-7 : tie.Need-add-either-7
+add-either-7 c = search needs
+
+either-requires-5 : tie.Need-either-requires-5
+either-requires-5 c κs = search needs
+
+cast-either-5 : tie.Need-cast-either-5
+cast-either-5 c = search needs
+
+add-either-8 : tie.Need-add-either-8
+add-either-8 c = search needs
+
+either-requires-6 : tie.Need-either-requires-6
+either-requires-6 c κs = search needs
+
+either-requires-7 : tie.Need-either-requires-7
+either-requires-7 c κs = search needs
 
 returns : tie.Need-returns
-returns c = search (needs, slot-by-kind)
-
-mul-result : tie.Need-mul-result
-mul-result c = search needs
-
-add-result-3 : tie.Need-add-result-3
-add-result-3 c = search needs
-
-add-result-4 : tie.Need-add-result-4
-add-result-4 c = search needs
-
-returns-2 : tie.Need-returns-2
-returns-2 c = search (needs, slot-by-kind)
-
-sub-result : tie.Need-sub-result
-sub-result c = search needs
-
-mul-result-2 : tie.Need-mul-result-2
-mul-result-2 c = search needs
-
-add-result-5 : tie.Need-add-result-5
-add-result-5 c = search needs
-
-mul-result-3 : tie.Need-mul-result-3
-mul-result-3 c = search needs
-
-add-result-6 : tie.Need-add-result-6
-add-result-6 c = search needs
-
-add-result-7 : tie.Need-add-result-7
-add-result-7 c = search needs
-
-returns-3 : tie.Need-returns-3
-returns-3 c = search (needs, slot-by-kind)
-
-returns-4 : tie.Need-returns-4
-returns-4 c = search (needs, slot-by-kind)
-
-returns-5 : tie.Need-returns-5
-returns-5 c = search (needs, slot-by-kind)
-
-returns-6 : tie.Need-returns-6
-returns-6 c = search (needs, slot-by-kind)
-
-returns-7 : tie.Need-returns-7
-returns-7 c = search (needs, slot-by-kind)
-
-returns-8 : tie.Need-returns-8
-returns-8 c = search (needs, slot-by-kind)
-
-returns-9 : tie.Need-returns-9
-returns-9 c = search (needs, slot-by-kind)
+unfolding slot
+returns c = cc
 
 pub slot-spec : {M : Type 1} → statement M
 slot-spec =
     tie.close
     (tie.spec
-    add-result
-    add-result-2
-    returns
-    mul-result
-    add-result-3
-    add-result-4
-    returns-2
-    sub-result
-    mul-result-2
-    add-result-5
-    mul-result-3
-    add-result-6
-    add-result-7
-    returns-3
-    returns-4
-    returns-5
-    returns-6
-    returns-7
-    returns-8
-    returns-9)
+    cast-either
+    mul-either
+    add-either
+    add-either-2
+    either-requires
+    cast-either-2
+    mul-either-2
+    add-either-3
+    add-either-4
+    either-requires-2
+    cast-either-3
+    mul-either-3
+    add-either-5
+    add-either-6
+    either-requires-3
+    either-requires-4
+    cast-either-4
+    add-either-7
+    either-requires-5
+    cast-either-5
+    add-either-8
+    either-requires-6
+    either-requires-7
+    returns)

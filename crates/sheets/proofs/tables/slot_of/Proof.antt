@@ -6,26 +6,14 @@ use Rattle.sheets.proofs.tables.slot_of.Tie as tie
 kind-requires : tie.Need-kind-requires
 kind-requires c κs = search needs
 
-cast-kind : tie.Need-cast-kind
-cast-kind c = search needs
-
 holder-requires : tie.Need-holder-requires
 holder-requires c κs = search needs
-
-cast-holder : tie.Need-cast-holder
-cast-holder c = search needs
 
 intertie-requires : tie.Need-intertie-requires
 intertie-requires c κs = search needs
 
-cast-intertie : tie.Need-cast-intertie
-cast-intertie c = search needs
-
 rank-requires : tie.Need-rank-requires
 rank-requires c κs = search needs
-
-cast-rank : tie.Need-cast-rank
-cast-rank c = search needs
 
 slot-requires : tie.Need-slot-requires
 slot-requires c κs = search needs
@@ -36,14 +24,4 @@ returns c = cc
 pub slot-of-spec : {M : Type 1} → statement M
 slot-of-spec =
     tie.close
-    (tie.spec
-    kind-requires
-    cast-kind
-    holder-requires
-    cast-holder
-    intertie-requires
-    cast-intertie
-    rank-requires
-    cast-rank
-    slot-requires
-    returns)
+    (tie.spec kind-requires holder-requires intertie-requires rank-requires slot-requires returns)

@@ -1,0 +1,84 @@
+-- `read_pairs` meets its contract: after m turns the rows of the first m holders are read.
+use Prim.Native.Nat.{ℕ, _+_, _-_, _*_, _≤_}
+use mathlib.Core.Path.{refl}
+use mathlib.Core.List.{List}
+use native.Mathlib.Omega.{arith}
+use denote.Ref.{now}
+use Rattle.base.specs.Words.{at}
+use Rattle.interties.specs.Pairs.{atPair}
+use Rattle.state.specs.Layout.{place}
+use Rattle.closing.proofs.TableLaws.{Rows, rows-none, rows-next}
+use Rattle.closing.proofs.tables.read_pairs.Statement.{statement}
+use Rattle.closing.proofs.tables.read_pairs.Tie as tie
+use borrow.Author.Needs.{needs}
+
+-- a word of the field
+abbrev word : List ℕ → ℕ → ℕ → ℕ → ℕ
+word state field h i = at state (place (field + h) i)
+
+abbrev Inv-loop : tie.InvT-loop
+Inv-loop state field holders interties table₀ holder₀ table holder = (holder ≤ holders) × Rows interties (word state field) table₀ table holder
+
+abbrev μ-loop : tie.MeasureT-loop
+μ-loop state field holders interties table₀ holder₀ table holder = holders - holder
+
+loop-holds : tie.Need-loop-holds Inv-loop μ-loop
+loop-holds c = (search needs, rows-none _ _ _)
+
+add-read-row : tie.Need-add-read-row Inv-loop μ-loop
+add-read-row c = search needs
+
+mul-read-row : tie.Need-mul-read-row Inv-loop μ-loop
+mul-read-row c = search needs
+
+read-row-requires : tie.Need-read-row-requires Inv-loop μ-loop
+read-row-requires c κs =
+    let a = c .before .before .before .before .before .args in
+    let p = c .before .before .before .before .before .pre in
+    let m = c .before .before .loop .holder in
+    let r = c .before .before .loop .inv .1 in (
+      p .0,
+      omega arith,
+      p .3,
+      omega (arith, r .size),
+    )
+
+add-holder : tie.Need-add-holder Inv-loop μ-loop
+add-holder c = search needs
+
+loop-less : tie.Need-loop-less Inv-loop μ-loop
+loop-less c = search needs
+
+loop-again : tie.Need-loop-again Inv-loop μ-loop
+loop-again c =
+    let a = c .before .before .before .before .before .before .before .before .args in
+    let p = c .before .before .before .before .before .before .before .before .pre in
+    let m = c .before .before .before .before .before .loop .holder in
+    let table = c .before .before .before .before .before .loop .table in
+    let r = c .before .before .before .before .before .loop .inv .1 in (
+      search needs,
+      rows-next (a .interties) (word (now (a .state)) (a .field)) (now (a .table)) m
+          (word (now (a .state)) (a .field) m) table _ r (p .3) (omega arith) (c .before .before .read-row .ensures) (λ i l. refl),
+    )
+
+same-length : tie.Need-same-length Inv-loop μ-loop
+same-length c = c .before .loop .inv .1 .size
+
+returns : tie.Need-returns Inv-loop μ-loop
+returns c = λ h i k l. c .before .loop .inv .1 .done h i (omega arith) l
+
+pub read-pairs-spec : {M : Type 1} → statement M
+read-pairs-spec =
+    tie.close
+    (tie.spec
+    Inv-loop
+    μ-loop
+    loop-holds
+    add-read-row
+    mul-read-row
+    read-row-requires
+    add-holder
+    loop-less
+    loop-again
+    same-length
+    returns)

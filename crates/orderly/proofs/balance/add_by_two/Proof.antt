@@ -1,0 +1,58 @@
+-- `orderly::balance::add_by_two` meets its contract. The invariant: the holders passed are added.
+use Prim.Native.Nat.{ℕ, _*_, _≤_, _-_}
+use native.Mathlib.Omega.{arith}
+use borrow.Author.Needs.{needs}
+use Rattle.orderly.specs.Check.{Added}
+use Rattle.orderly.proofs.BalanceLaws.{added-none, added-two, added-same}
+use Rattle.orderly.proofs.balance.add_by_two.Statement.{statement}
+use Rattle.orderly.proofs.balance.add_by_two.Tie as tie
+
+abbrev Inv-loop : tie.InvT-loop
+Inv-loop state sums₀ bits₀ two₀ two-end sums bits two = (two ≤ two-end) × Added state (2 * two) bits sums
+
+abbrev μ-loop : tie.MeasureT-loop
+μ-loop state sums₀ bits₀ two₀ two-end sums bits two = two-end - two
+
+holder-count-requires : tie.Need-holder-count-requires Inv-loop μ-loop
+holder-count-requires c κs = search needs
+
+loop-holds : tie.Need-loop-holds Inv-loop μ-loop
+loop-holds c = (omega arith, added-none _ _ (c .before .before .pre .1))
+
+mul-add-two : tie.Need-mul-add-two Inv-loop μ-loop
+mul-add-two c = omega arith
+
+add-two-requires : tie.Need-add-two-requires Inv-loop μ-loop
+add-two-requires c κs = search needs
+
+add-two : tie.Need-add-two Inv-loop μ-loop
+add-two c = omega arith
+
+loop-less : tie.Need-loop-less Inv-loop μ-loop
+loop-less c = omega arith
+
+loop-again : tie.Need-loop-again Inv-loop μ-loop
+loop-again c =
+    let a = c .before .before .before .before .before .before .args in
+    let l = c .before .before .before .loop in
+    (omega arith, added-two (a .state .now) (l .sums) _ (l .two) (l .bits) (c .add-two .result) (omega arith) (l .inv .1) (c .add-two .ensures .0) (c .add-two .ensures .1))
+
+returns : tie.Need-returns Inv-loop μ-loop
+returns c =
+    let l = c .before .loop in
+    added-same _ _ (2 * l .two) _ _ (omega arith) (l .inv .1)
+
+pub add-by-two-spec : {M : Type 1} → statement M
+add-by-two-spec =
+    tie.close
+    (tie.spec
+    Inv-loop
+    μ-loop
+    holder-count-requires
+    loop-holds
+    mul-add-two
+    add-two-requires
+    add-two
+    loop-less
+    loop-again
+    returns)

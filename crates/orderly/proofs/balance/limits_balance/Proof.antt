@@ -1,0 +1,47 @@
+-- `orderly::balance::limits_balance` meets its contract.
+use Prim.Native.Nat.{ℕ}
+use mathlib.Core.Path.{sym, _∙_}
+use native.Mathlib.Omega.{arith}
+use borrow.Author.Needs.{needs}
+use lib.ListN.{getD-replicate, length-replicate}
+use Rattle.orderly.proofs.BalanceLaws.{limits-balance-is}
+use Rattle.orderly.proofs.balance.limits_balance.Statement.{statement}
+use Rattle.orderly.proofs.balance.limits_balance.Tie as tie
+
+add-holders-requires : tie.Need-add-holders-requires
+add-holders-requires c κs = (
+  c .before .before .pre,
+  record {
+    places = length-replicate {A = ℕ} 48 0;
+    zeros = λ i l. getD-replicate 48 i 0 0 (omega arith);
+  },
+)
+
+intertie-count-requires : tie.Need-intertie-count-requires
+intertie-count-requires c κs = search needs
+
+row-within-requires : tie.Need-row-within-requires
+row-within-requires c κs = search needs
+
+limits-met-requires : tie.Need-limits-met-requires
+limits-met-requires c κs = search needs
+
+returns : tie.Need-returns
+returns c =
+    let tested = c .before .before in
+    let added = tested .before .before in
+    let s = added .before .before .before .args .state .now in
+    limits-balance-is s (added .add-holders .last .1 .0) _ (added .add-holders .result) (tested .before .intertie-count .ensures) (omega arith)
+    (tested .row-within .ensures)
+    (added .add-holders .ensures)
+    (c .limits-met .ensures)
+
+pub limits-balance-spec : {M : Type 1} → statement M
+limits-balance-spec =
+    tie.close
+    (tie.spec
+    add-holders-requires
+    intertie-count-requires
+    row-within-requires
+    limits-met-requires
+    returns)

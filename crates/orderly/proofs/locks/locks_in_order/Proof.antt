@@ -1,0 +1,56 @@
+-- `orderly::locks::locks_in_order` meets its contract. The invariant: the locks of the holders passed are tested.
+use Prim.Native.Nat.{ℕ, _≤_, _-_}
+use mathlib.Core.Path.{_≡_, _∙_}
+use native.Mathlib.Omega.{arith}
+use borrow.Author.Needs.{needs}
+use Rattle.base.specs.Sums.{allTo}
+use Rattle.state.specs.Layout.{interties}
+use Rattle.orderly.specs.Check.{pairLockFits}
+use Rattle.state.proofs.BaseMore.{tests-turn, tests-end}
+use Rattle.orderly.proofs.CheckLaws.{locks-are}
+use Rattle.orderly.proofs.locks.locks_in_order.Statement.{statement}
+use Rattle.orderly.proofs.locks.locks_in_order.Tie as tie
+
+abbrev Inv-loop : tie.InvT-loop
+Inv-loop state in-order₀ holder₀ holder-end in-order holder =
+    (holder ≤ holder-end)
+    × (in-order ≡ allTo holder (λ (h : ℕ). allTo (interties state) (λ (i : ℕ). pairLockFits state h i)))
+
+abbrev μ-loop : tie.MeasureT-loop
+μ-loop state in-order₀ holder₀ holder-end in-order holder = holder-end - holder
+
+holder-count-requires : tie.Need-holder-count-requires Inv-loop μ-loop
+holder-count-requires c κs = search needs
+
+loop-holds : tie.Need-loop-holds Inv-loop μ-loop
+unfolding allTo
+loop-holds c = search needs
+
+holder-locks-in-order-requires : tie.Need-holder-locks-in-order-requires Inv-loop μ-loop
+holder-locks-in-order-requires c κs = search needs
+
+add-holder : tie.Need-add-holder Inv-loop μ-loop
+add-holder c = omega arith
+
+loop-less : tie.Need-loop-less Inv-loop μ-loop
+loop-less c = omega arith
+
+loop-again : tie.Need-loop-again Inv-loop μ-loop
+loop-again c = (omega arith, tests-turn _ _ (c .before .before .loop .inv .1) (c .holder-locks-in-order .ensures))
+
+returns : tie.Need-returns Inv-loop μ-loop
+returns c = tests-end _ _ _ (c .before .loop .inv .1) (omega arith) (omega arith) ∙ locks-are (c .before .before .before .before .args .state .now)
+
+pub locks-in-order-spec : {M : Type 1} → statement M
+locks-in-order-spec =
+    tie.close
+    (tie.spec
+    Inv-loop
+    μ-loop
+    holder-count-requires
+    loop-holds
+    holder-locks-in-order-requires
+    add-holder
+    loop-less
+    loop-again
+    returns)

@@ -1,0 +1,58 @@
+-- `orderly::rows::row_within` meets its contract. The invariant: the faults of the words passed are counted.
+use Prim.Native.Nat.{ℕ, _≤_, _-_}
+use mathlib.Core.Path.{_≡_}
+use native.Mathlib.Omega.{arith}
+use borrow.Author.Needs.{needs}
+use lib.Dec.{leb}
+use Rattle.base.specs.Words.{at}
+use Rattle.state.specs.Layout.{place}
+use Rattle.state.proofs.BaseMore.{faultsTo, faults-zero, faults-turn, faults-turn-most, faults-end}
+use Rattle.orderly.proofs.rows.row_within.Statement.{statement}
+use Rattle.orderly.proofs.rows.row_within.Tie as tie
+
+abbrev Inv-loop : tie.InvT-loop
+Inv-loop state row count most faults₀ column₀ faults column =
+    (column ≤ count) × (faults ≡ faultsTo column (λ (c : ℕ). leb (at state (place row c)) most))
+
+abbrev μ-loop : tie.MeasureT-loop
+μ-loop state row count most faults₀ column₀ faults column = count - column
+
+loop-holds : tie.Need-loop-holds Inv-loop μ-loop
+loop-holds c = (omega arith, faults-zero _)
+
+row-word-requires : tie.Need-row-word-requires Inv-loop μ-loop
+row-word-requires c κs = search needs
+
+above-requires : tie.Need-above-requires Inv-loop μ-loop
+above-requires c κs = search needs
+
+add-faults : tie.Need-add-faults Inv-loop μ-loop
+add-faults c =
+    omega (arith, faults-turn-most _ _ {f = c .above .result} (c .before .before .before .loop .inv .1) (cc))
+
+add-column : tie.Need-add-column Inv-loop μ-loop
+add-column c = omega arith
+
+loop-less : tie.Need-loop-less Inv-loop μ-loop
+loop-less c = omega arith
+
+loop-again : tie.Need-loop-again Inv-loop μ-loop
+loop-again c = (omega arith, faults-turn _ _ (c .before .before .before .loop .inv .1) (cc))
+
+returns : tie.Need-returns Inv-loop μ-loop
+returns c = faults-end _ _ _ (c .before .loop .inv .1) (c .before .loop .inv .0) (c .loop-test .left)
+
+pub row-within-spec : {M : Type 1} → statement M
+row-within-spec =
+    tie.close
+    (tie.spec
+    Inv-loop
+    μ-loop
+    loop-holds
+    row-word-requires
+    above-requires
+    add-faults
+    add-column
+    loop-less
+    loop-again
+    returns)

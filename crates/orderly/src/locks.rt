@@ -1,0 +1,87 @@
+// Locked kW and lock terms.
+use super::rows::holder_count;
+use super::rows::intertie_count;
+use super::rows::row_word;
+use state::layout;
+ghost use mathlib.Core.Path.{_≡_};
+ghost use mathlib.Core.Bool.{_&&_};
+ghost use Prim.Native.Nat.{ℕ, _≤_, _<_};
+ghost use lib.Dec.{leb};
+ghost use lib.ListN.{length};
+ghost use Rattle.base.specs.Choice.{pick};
+ghost use Rattle.base.specs.Sums.{allTo};
+ghost use Rattle.state.specs.Layout.{interties};
+ghost use Rattle.state.specs.Orderly.{lockedWithinPlaced, termsFit};
+ghost use Rattle.orderly.specs.Check.{Sized, lockFits, pairLockFits, unlocked};
+
+// 1 for a pair whose locked kW or lock term is out of order, else 0.
+fn lock_fault(placed: u32, locked: u32, term: u32) -> u32
+    ensures { λ r. ⌜ r ≡ pick {A = ℕ} (lockFits placed locked term) 0 1 ⌝ }
+{
+    if (locked <= placed) & (term <= layout::MOST_TERM_YEARS) & ((locked == 0) == (term == 0)) {
+        return 0;
+    }
+    1
+}
+
+// The same of a pair of the state.
+fn pair_fault(state: &[u32], holder: u32, intertie: usize) -> u32
+    requires { ⌜ (16000 ≤ length (now state)) × (holder < 32) × (intertie < 48) ⌝ }
+    ensures { λ r. ⌜ r ≡ pick {A = ℕ} (pairLockFits (now (state .entry)) holder intertie) 0 1 ⌝ }
+{
+    lock_fault(
+        row_word(state, layout::PLACED + holder, intertie),
+        row_word(state, layout::LOCKED + holder, intertie),
+        row_word(state, layout::TERM + holder, intertie),
+    )
+}
+
+// Whether the pairs of a holder have their locks in order.
+fn pair_locks_in_order(state: &[u32], holder: u32) -> bool
+    requires { ⌜ Sized (now state) × (holder < 32) ⌝ }
+    ensures { λ r. ⌜ r ≡ allTo (interties (now (state .entry))) (λ (i : ℕ). pairLockFits (now (state .entry)) holder i) ⌝ }
+{
+    let mut faults: u32 = 0;
+    for intertie in 0..intertie_count(state) {
+        faults += pair_fault(state, holder, intertie);
+    }
+    faults == 0
+}
+
+// Whether a holder has no locked kW and no lock term.
+fn has_no_lock(state: &[u32], holder: u32) -> bool
+    requires { ⌜ Sized (now state) × (holder < 32) ⌝ }
+    ensures { λ r. ⌜ r ≡ allTo (interties (now (state .entry))) (λ (i : ℕ). unlocked (now (state .entry)) holder i) ⌝ }
+{
+    let mut bits: u32 = 0;
+    for intertie in 0..intertie_count(state) {
+        bits = bits
+            | row_word(state, layout::LOCKED + holder, intertie)
+            | row_word(state, layout::TERM + holder, intertie);
+    }
+    bits == 0
+}
+
+// Whether the locks of a holder are in order. Before stage 4 there are none, which is quicker to see.
+fn holder_locks_in_order(state: &[u32], holder: u32) -> bool
+    requires { ⌜ Sized (now state) × (holder < 32) ⌝ }
+    ensures { λ r. ⌜ r ≡ allTo (interties (now (state .entry))) (λ (i : ℕ). pairLockFits (now (state .entry)) holder i) ⌝ }
+{
+    if state::word(state, layout::YEAR, layout::STAGE) != layout::OPEN {
+        if has_no_lock(state, holder) {
+            return true;
+        }
+    }
+    pair_locks_in_order(state, holder)
+}
+
+pub(super) fn locks_in_order(state: &[u32]) -> bool
+    requires { ⌜ Sized (now state) ⌝ }
+    ensures { λ r. ⌜ r ≡ (lockedWithinPlaced (now (state .entry)) && termsFit (now (state .entry))) ⌝ }
+{
+    let mut in_order = true;
+    for holder in 0..holder_count(state) {
+        in_order = in_order & holder_locks_in_order(state, holder);
+    }
+    in_order
+}

@@ -1,0 +1,5 @@
+pub mod VectorLaws
+pub mod PartLaws
+pub mod ClaimLaws
+pub mod ReserveLaws
+pub mod StepLaws

@@ -1,0 +1,5 @@
+pub mod Vectors
+pub mod Step2
+pub mod Reserve
+pub mod Steps
+pub mod Reserved

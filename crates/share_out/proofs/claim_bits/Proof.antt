@@ -1,0 +1,55 @@
+-- `claim_bits` meets its contract: after i turns no claim of the first i is above the bits.
+use Prim.Native.Nat.{_-_, _≤_}
+use mathlib.Core.Path.{refl}
+use native.Mathlib.Omega.{arith}
+use borrow.Author.Needs.{needs}
+use lib.ListN.{length}
+use denote.Ref.{now}
+use Rattle.base.specs.Words.{at}
+use Rattle.share_out.specs.Fit.{Covered}
+use Rattle.share_out.proofs.NumberLaws.{covered-none, covered-more}
+use Rattle.share_out.proofs.claim_bits.Statement.{statement}
+use Rattle.share_out.proofs.claim_bits.Tie as tie
+
+abbrev Inv-loop : tie.InvT-loop
+Inv-loop claims bits₀ i₀ bits i = (i ≤ length claims) × Covered i (at claims) bits
+
+abbrev μ-loop : tie.MeasureT-loop
+μ-loop claims bits₀ i₀ bits i = length claims - i
+
+loop-holds : tie.Need-loop-holds Inv-loop μ-loop
+loop-holds c = (search needs, covered-none _)
+
+mul-bits : tie.Need-mul-bits Inv-loop μ-loop
+mul-bits c = search needs
+
+shared-slice-read-bits : tie.Need-shared-slice-read-bits Inv-loop μ-loop
+shared-slice-read-bits c = search needs
+
+add-i : tie.Need-add-i Inv-loop μ-loop
+add-i c = search needs
+
+loop-less : tie.Need-loop-less Inv-loop μ-loop
+loop-less c = search needs
+
+loop-again : tie.Need-loop-again Inv-loop μ-loop
+loop-again c =
+    let l = c .before .before .loop in
+    (search needs, covered-more (at (now (c .before .before .before .args .claims))) (l .i) (l .bits) _ (l .inv .1) refl)
+
+returns : tie.Need-returns Inv-loop μ-loop
+returns c = λ i l. c .before .loop .inv .1 i (omega arith)
+
+pub claim-bits-spec : {M : Type 1} → statement M
+claim-bits-spec =
+    tie.close
+    (tie.spec
+    Inv-loop
+    μ-loop
+    loop-holds
+    mul-bits
+    shared-slice-read-bits
+    add-i
+    loop-less
+    loop-again
+    returns)

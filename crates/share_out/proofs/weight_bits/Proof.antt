@@ -1,0 +1,63 @@
+-- `weight_bits` meets its contract: after i turns no raised weight of the first i is above the bits.
+use Prim.Native.Nat.{ℕ, _-_, _≤_}
+use mathlib.Core.List.{List}
+use native.Mathlib.Omega.{arith}
+use borrow.Author.Needs.{needs}
+use lib.ListN.{length}
+use denote.Ref.{now}
+use Rattle.base.specs.Words.{at}
+use Rattle.share_out.specs.Fit.{Covered, raised}
+use Rattle.share_out.proofs.NumberLaws.{covered-none, covered-more}
+use Rattle.share_out.proofs.weight_bits.Statement.{statement}
+use Rattle.share_out.proofs.weight_bits.Tie as tie
+
+-- a weight, raised
+abbrev raisedAt : List ℕ → ℕ → ℕ
+raisedAt weights i = raised (at weights i)
+
+abbrev Inv-loop : tie.InvT-loop
+Inv-loop weights bits₀ i₀ bits i = (i ≤ length weights) × Covered i (raisedAt weights) bits
+
+abbrev μ-loop : tie.MeasureT-loop
+μ-loop weights bits₀ i₀ bits i = length weights - i
+
+loop-holds : tie.Need-loop-holds Inv-loop μ-loop
+loop-holds c = (search needs, covered-none _)
+
+mul-raised : tie.Need-mul-raised Inv-loop μ-loop
+mul-raised c = search needs
+
+shared-slice-read-raised : tie.Need-shared-slice-read-raised Inv-loop μ-loop
+shared-slice-read-raised c = search needs
+
+raised-requires : tie.Need-raised-requires Inv-loop μ-loop
+raised-requires c κs = search needs
+
+add-i : tie.Need-add-i Inv-loop μ-loop
+add-i c = search needs
+
+loop-less : tie.Need-loop-less Inv-loop μ-loop
+loop-less c = search needs
+
+loop-again : tie.Need-loop-again Inv-loop μ-loop
+loop-again c =
+    let l = c .before .before .before .loop in
+    (search needs, covered-more (raisedAt (now (c .before .before .before .before .before .args .weights))) (l .i) (l .bits) _ (l .inv .1) (c .raised .ensures))
+
+returns : tie.Need-returns Inv-loop μ-loop
+returns c = λ i l. c .before .loop .inv .1 i (omega arith)
+
+pub weight-bits-spec : {M : Type 1} → statement M
+weight-bits-spec =
+    tie.close
+    (tie.spec
+    Inv-loop
+    μ-loop
+    loop-holds
+    mul-raised
+    shared-slice-read-raised
+    raised-requires
+    add-i
+    loop-less
+    loop-again
+    returns)
