@@ -115,8 +115,8 @@ pub fn expected(library: &Library) -> Result<Vec<(String, u64, String)>, String>
             ));
         }
     }
-    let longest = library.constant("printing", "INPUT_BYTES")? - 1;
-    let place = "crates/printing, INPUT_BYTES - 1".to_string();
+    let longest = library.constant("printing", "SHEET_ROOM")? - 1;
+    let place = "crates/printing, SHEET_ROOM - 1".to_string();
     all.push(("MOST_SHEET_BYTES".to_string(), longest, place));
     for (name, value) in of_the_independent_program() {
         all.push((name.to_string(), value, "tests/independent".to_string()));
