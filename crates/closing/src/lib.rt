@@ -13,7 +13,7 @@ ghost use Rattle.state.specs.Layout.{stageOf};
 ghost use Rattle.closing.specs.Close.{closeRefusal, close};
 
 // The words that a grants buffer has at least: one for each of 32 holders and 48 interties.
-const GRANTS_WORDS: usize = 1536;
+pub const GRANTS_WORDS: usize = 1536;
 
 // Close: shares each intertie's unassigned kW out over what is pending there, in stages 2 and 3, and
 // raises the stage. Word h·I + i of the grants buffer gets the kW of holder h on intertie i.

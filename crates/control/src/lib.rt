@@ -7,11 +7,6 @@ use state::layout;
 ghost use mathlib.Core.Path.{_≡_};
 ghost use Rattle.control.specs.Figures.{intertieFigures, holderFigures, isIntertie, isHolder};
 
-// A call is six words and its answer three.
-pub const CALL_WORDS: usize = 6;
-
-pub const ANSWER_WORDS: usize = 3;
-
 // The most calls of a list, and the words of so many calls and of their answers.
 pub const MOST_CALLS: usize = 16_384;
 

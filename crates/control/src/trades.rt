@@ -1,9 +1,10 @@
 // The granted trades of a list: what a holder bought and sold by them.
-use super::ANSWER_WORDS;
 use super::ANSWERS_WORDS;
-use super::CALL_WORDS;
 use super::CALLS_WORDS;
 use super::MOST_CALLS;
+use encoding::ANSWER_WORDS;
+use encoding::CALL_WORDS;
+use encoding::TRADE;
 ghost use mathlib.Core.Path.{_≡_};
 ghost use Prim.Native.Nat.{ℕ, _+_, _*_, _≤_, _<_, min};
 ghost use Rattle.base.specs.Sums.{sumTo};
@@ -15,8 +16,6 @@ const SELLER: usize = 1;
 const BUYER: usize = 2;
 
 const KW: usize = 4;
-
-const TRADE: u32 = 1;
 
 // The kW of call n where it is a granted trade with the holder as the party, else 0.
 fn traded_in(

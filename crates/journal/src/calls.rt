@@ -9,18 +9,6 @@ ghost use Rattle.journal.specs.Words.{words};
 ghost use Rattle.journal.specs.Calls.{kindOf, takes, numbersOf, callWith, callOr, lineOf};
 ghost use Rattle.journal.specs.Workers.{figureOf};
 
-const TRADE: u32 = 1;
-
-const REQUEST: u32 = 2;
-
-const CLOSE: u32 = 3;
-
-const TAKE: u32 = 4;
-
-const MOVE: u32 = 5;
-
-const LOCK: u32 = 6;
-
 // A call as read from a line: its kind (1 trade, 2 request, 3 close, 4 take, 5 move, 6 lock), three
 // numbers and its kW.
 pub struct Call {
@@ -123,10 +111,10 @@ fn read_figure(word: &[u8]) -> Figure
 fn takes(kind: u32) -> usize
     ensures { λ r. ⌜ (r ≡ takes kind) × (r ≤ 4) ⌝ }
 {
-    if kind == CLOSE {
+    if kind == encoding::CLOSE {
         return 0;
     }
-    if kind <= REQUEST {
+    if kind <= encoding::REQUEST {
         return 3;
     }
     4
@@ -136,7 +124,7 @@ fn takes(kind: u32) -> usize
 fn call_with(kind: u32, n: &[u32; 4]) -> Call
     ensures { λ r. ⌜ r ≡ callWith kind (now (n .entry)) ⌝ }
 {
-    if kind == MOVE {
+    if kind == encoding::MOVE {
         return Call {
             kind,
             a: n[0],
@@ -159,22 +147,22 @@ fn kind_of(name: &[u8]) -> u32
     ensures { λ r. ⌜ r ≡ kindOf (now (name .entry)) ⌝ }
 {
     if text::same(name, b"trade") {
-        return TRADE;
+        return encoding::TRADE;
     }
     if text::same(name, b"request") {
-        return REQUEST;
+        return encoding::REQUEST;
     }
     if text::same(name, b"close") {
-        return CLOSE;
+        return encoding::CLOSE;
     }
     if text::same(name, b"take") {
-        return TAKE;
+        return encoding::TAKE;
     }
     if text::same(name, b"move") {
-        return MOVE;
+        return encoding::MOVE;
     }
     if text::same(name, b"lock") {
-        return LOCK;
+        return encoding::LOCK;
     }
     0
 }

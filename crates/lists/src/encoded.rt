@@ -1,27 +1,12 @@
 // Calls as 32-bit words: whether words are a list of calls, and what the words of one say.
+use closing::GRANTS_WORDS;
+use encoding::ANSWER_WORDS;
+use encoding::CALL_WORDS;
 ghost use mathlib.Core.Path.{_≡_};
 ghost use Prim.Native.Nat.{ℕ, _+_, _*_, _≤_, min};
 ghost use lib.ListN.{length};
 ghost use Rattle.base.specs.Sums.{allTo};
 ghost use Rattle.lists.specs.Encoded.{wordsOf, kindOf, knownKind, kwOf, accepted};
-
-pub(super) const CALL_WORDS: usize = 6;
-
-pub(super) const ANSWER_WORDS: usize = 3;
-
-pub(super) const GRANTS_WORDS: usize = 1536;
-
-pub(super) const TRADE: u32 = 1;
-
-pub(super) const REQUEST: u32 = 2;
-
-pub(super) const CLOSE: u32 = 3;
-
-pub(super) const TAKE: u32 = 4;
-
-pub(super) const MOVE: u32 = 5;
-
-pub(super) const LOCK: u32 = 6;
 
 // Whether the words are a list of calls, with room for the answers.
 pub(super) fn accepted(calls: &[u32], room: usize) -> bool
@@ -56,7 +41,7 @@ fn known_kinds(calls: &[u32], count: usize) -> bool
 fn known_kind(kind: u32) -> bool
     ensures { λ r. ⌜ r ≡ knownKind kind ⌝ }
 {
-    (TRADE <= kind) & (kind <= LOCK)
+    (encoding::TRADE <= kind) & (kind <= encoding::LOCK)
 }
 
 // The kW of a call, from its low and its high word.

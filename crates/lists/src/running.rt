@@ -16,12 +16,12 @@ pub(super) fn run_all(calls: &[u32], state: &mut [u32], grants: &mut [u32], answ
         × (now (grants .exit) ≡ grantsAfter (now (calls .entry)) (now (state .entry)) (now (grants .entry)) (callCount (now (calls .entry))))
         × (now (answers .exit) ≡ answersAfter (now (calls .entry)) (now (state .entry)) (now (grants .entry)) (now (answers .entry)) (callCount (now (calls .entry)))) ⌝ }
 {
-    let count = calls.len() / encoded::CALL_WORDS;
+    let count = calls.len() / encoding::CALL_WORDS;
     let mut n = 0;
     let mut start = 0;
     while n < count {
-        let first = encoded::CALL_WORDS * n;
-        let end = first + encoded::CALL_WORDS;
+        let first = encoding::CALL_WORDS * n;
+        let end = first + encoding::CALL_WORDS;
         start = run_call(&calls[first..end], n, start, state, grants, answers);
         n += 1;
     }
@@ -44,7 +44,7 @@ fn run_call(
         × (now (answers .exit) ≡ withAnswer (now (answers .entry)) n (result (callOf (now (words .entry)) (take 1536 (drop start (now (grants .entry))))) (now (state .entry)) .answer)) ⌝ }
 {
     let kind = words[0];
-    if kind == encoded::CLOSE {
+    if kind == encoding::CLOSE {
         let end = encoded::lent_end(start, grants.len());
         let closed = closing::close(state, &mut grants[start..end]);
         store_answer(answers, n, closed);
@@ -61,16 +61,16 @@ fn numbered_call(state: &mut [u32], kind: u32, a: u32, b: u32, c: u32, kw: u64) 
     ensures { λ r. ⌜ (r ≡ result (numbered kind a b c kw) (now (state .entry)) .answer)
         × (now (state .exit) ≡ result (numbered kind a b c kw) (now (state .entry)) .state) ⌝ }
 {
-    if kind == encoded::TRADE {
+    if kind == encoding::TRADE {
         return trading::trade(state, a, b, kw);
     }
-    if kind == encoded::REQUEST {
+    if kind == encoding::REQUEST {
         return trading::request(state, a, b, kw);
     }
-    if kind == encoded::TAKE {
+    if kind == encoding::TAKE {
         return taking::take(state, a, b, kw, c);
     }
-    if kind == encoded::MOVE {
+    if kind == encoding::MOVE {
         return holding::move_kw(state, a, b, c, kw);
     }
     holding::lock(state, a, b, kw, c)
@@ -81,7 +81,7 @@ fn store_answer(answers: &mut [u64], n: usize, answer: Answer)
     requires { ⌜ 3 * n + 2 < length (now answers) ⌝ }
     ensures { λ _. ⌜ now (answers .exit) ≡ withAnswer (now (answers .entry)) n answer ⌝ }
 {
-    let place = encoded::ANSWER_WORDS * n;
+    let place = encoding::ANSWER_WORDS * n;
     answers[place] = answer.refusal as u64;
     answers[place + 1] = answer.kw;
     answers[place + 2] = answer.passes;

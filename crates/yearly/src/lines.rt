@@ -1,14 +1,13 @@
 // Lines on standard output. Each function answers whether its lines were written. Where they were not, standard
 // error says why.
-use control::ANSWER_WORDS;
+use closing::GRANTS_WORDS;
 use control::ANSWERS_WORDS;
 use control::CALLS_WORDS;
+use encoding::ANSWER_WORDS;
 use libc::STDOUT_FILENO;
 use state::layout;
 use state::layout::STATE_WORDS;
 use text::LINE_BYTES;
-
-pub(super) const GRANTS_WORDS: usize = 1_536;
 
 fn print(label: &[u8], figures: &[u64]) -> bool {
     let mut out = [0u8; LINE_BYTES];

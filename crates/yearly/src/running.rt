@@ -1,17 +1,15 @@
 // The calls run in stretches that end with a closing, so that one grants buffer serves any number of
 // closings; the answers and the grants of a stretch are printed when it has run.
 use super::lines;
-use super::lines::GRANTS_WORDS;
-use control::ANSWER_WORDS;
-use control::CALL_WORDS;
+use closing::GRANTS_WORDS;
+use encoding::ANSWER_WORDS;
+use encoding::CALL_WORDS;
 use state::layout;
 ghost use Prim.Native.Nat.{_*_, _≤_, _<_};
 ghost use mathlib.Core.Path.{_≡_};
 ghost use mathlib.Core.Bool.{true};
 ghost use lib.ListN.{length};
 ghost use Rattle.yearly.specs.Year.{Ran, OneClosing, YearRan};
-
-const CLOSE: u32 = 3;
 
 // Runs the first `count` calls. Answers whether all were run and printed.
 pub(super) fn run_all(calls: &[u32], count: usize, state: &mut [u32], answers: &mut [u64]) -> bool
@@ -37,7 +35,7 @@ fn stretch_end(calls: &[u32], first: usize, count: usize) -> usize
     ensures { λ r. ⌜ (first < r) × (r ≤ count) × OneClosing (now (calls .entry)) first r ⌝ }
 {
     let mut n = first;
-    while calls[CALL_WORDS * n] != CLOSE {
+    while calls[CALL_WORDS * n] != encoding::CLOSE {
         n += 1;
         if n == count {
             return n;
