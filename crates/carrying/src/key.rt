@@ -5,8 +5,8 @@ ghost use Rattle.carrying.specs.Lines.{yearless, goesOn, nextYears, next
 ghost use Rattle.carrying.specs.Draft.{maskedKey, lineKey};
 use sheets::key;
 
-// Each field is cut to its width.
-pub(crate) fn pack(kind: u32, holder: u32, intertie: u32, rank: u32, years: u32) -> u32
+// A key from its fields, each cut to its width.
+pub fn pack(kind: u32, holder: u32, intertie: u32, rank: u32, years: u32) -> u32
     ensures { λ r. ⌜ r ≡ maskedKey kind holder intertie rank years ⌝ }
 {
     (kind & 15)

@@ -1,5 +1,5 @@
 // Carry: next year's sheet, from this year's sheet and state (document 01, "Beside the year").
-mod key;
+pub mod key;
 mod locks;
 mod records;
 mod writing;

@@ -114,17 +114,12 @@ fn read_values(line: &[u8], start: usize, mosts: &[u32], values: &mut [u32]) -> 
     }
 }
 
-// A key's fields put together by shifts: 4 bits of kind, 6 of holder, 6 of intertie, 8 of rank, 8 of
-// years.
+// A key from fields within their widths.
 fn pack(kind: u32, holder: u32, intertie: u32, rank: u32, years: u32) -> u32
     requires { ⌜ (kind ≤ 15) × (holder ≤ 63) × (intertie ≤ 63) × (rank ≤ 255) × (years ≤ 255) ⌝ }
     ensures { λ r. ⌜ r ≡ keyFrom kind holder intertie rank years ⌝ }
 {
-    (kind & 15)
-        | ((holder & 63) << 4)
-        | ((intertie & 63) << 10)
-        | ((rank & 255) << 16)
-        | ((years & 255) << 24)
+    carrying::key::pack(kind, holder, intertie, rank, years)
 }
 
 // The first line: I and H.
