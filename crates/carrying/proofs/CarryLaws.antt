@@ -16,7 +16,7 @@ use Rattle.base.specs.declared.Answer.{Answer}
 use Rattle.base.proofs.ChoiceLaws.{or-left, or-right}
 use Rattle.sheets.specs.Sheet as Sheet
 use Rattle.sheets.specs.Refusal.{badLength, sheetRefusal}
-use Rattle.sheets.proofs.SheetLaws.{standing, first-words}
+use Rattle.readings.proofs.SheetLaws.{standing, first-words}
 use Rattle.state.specs.Layout as Layout
 use Rattle.state.specs.Orderly.{stateRefusal}
 use Rattle.state.proofs.OrderlyLaws.{Orderly, refusal-none}

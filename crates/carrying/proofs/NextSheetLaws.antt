@@ -17,8 +17,8 @@ use Rattle.sheets.specs.Key.{kindOf, holderOf, intertieOf, rankOf, yearsOf}
 use Rattle.sheets.specs.Sheet as Sheet
 use Rattle.sheets.specs.Sheet.{count, keyAt, kwAt, sumOver, howMany, isLimit, isLoadShare, isNewUse, limit, outside, existing, existingOn}
 use Rattle.sheets.specs.Refusal.{badLength, badSizes, recordStands, recordsStand, oneLimitEach, oneLoadShareEach, noRankTwice, rulesHold, limitsHold, sheetRefusal}
-use Rattle.sheets.proofs.SheetLaws as SheetLaws
-use Rattle.sheets.proofs.SheetLaws.{Stands, standing}
+use Rattle.readings.proofs.SheetLaws as SheetLaws
+use Rattle.readings.proofs.SheetLaws.{Stands, standing}
 use Rattle.state.specs.Layout.{interties, holders}
 use Rattle.state.proofs.OrderlyLaws.{Orderly}
 use Rattle.call.proofs.LadderLaws.{none-first, none-second, not-whenever}

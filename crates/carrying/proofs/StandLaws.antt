@@ -12,7 +12,7 @@ use Rattle.base.proofs.SumLaws.{sumTo-term}
 use Rattle.sheets.specs.Key.{kindOf, holderOf, intertieOf, rankOf, yearsOf}
 use Rattle.sheets.specs.Sheet as Sheet
 use Rattle.sheets.specs.Refusal.{within, repeatable, recordStands}
-use Rattle.sheets.proofs.SheetLaws.{Stands}
+use Rattle.readings.proofs.SheetLaws.{Stands}
 use Rattle.state.specs.Layout.{interties, holders, placedOf, lockedOf, termOf}
 use Rattle.state.proofs.OrderlyLaws.{Orderly}
 use Rattle.carrying.specs.Line.{Line}

@@ -29,7 +29,7 @@ fn early_refusal(sheet: &[u8], state: &[u32]) -> u32
 {
     let of_stage = call::whenever(call::not_open(state), 7);
     let of_state = call::or_else(orderly::state_refusal(state), of_stage);
-    call::or_else(sheets::refusal::sheet_refusal(sheet), of_state)
+    call::or_else(readings::refusal::sheet_refusal(sheet), of_state)
 }
 
 // Whether the sheet's sizes differ from the state's.

@@ -9,7 +9,7 @@ use Rattle.base.specs.Sums.{sumTo}
 use Rattle.base.specs.Words.{at, tab}
 use Rattle.base.proofs.SumLaws.{sumTo-same, sumTo-term}
 use Rattle.base.proofs.WordLaws.{at-tab, length-tab}
-use Rattle.sheets.specs.Tables.{loadShareSlot}
+use Rattle.readings.specs.Tables.{loadShareSlot}
 use Rattle.step5.specs.Shares.{step5Shares}
 use Rattle.step5.specs.Outcome.{step5}
 use Rattle.step5.specs.Fit.{Accepted}

@@ -16,7 +16,7 @@ use Rattle.base.proofs.WordLaws.{at-tab, length-tab, tab-same, at-fill}
 use Rattle.state.specs.Layout.{stateWords}
 use Rattle.interties.specs.Pairs.{fillPairs}
 use Rattle.interties.proofs.PairLaws.{length-fillPairs, at-fillPairs}
-use Rattle.sheets.specs.Tables.{existingSlot, loadShareSlot}
+use Rattle.readings.specs.Tables.{existingSlot, loadShareSlot}
 use Rattle.step5.specs.Shares.{step5Shares}
 use Rattle.step5.proofs.Promise.{promise}
 use Rattle.steps.specs.Inputs.{Inputs}

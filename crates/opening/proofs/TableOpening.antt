@@ -16,9 +16,9 @@ use Rattle.base.proofs.SumLaws.{sumTo-same}
 use Rattle.state.specs.Layout.{stateWords}
 use Rattle.sheets.specs.Sheet as Sheet
 use Rattle.sheets.specs.Refusal.{sheetRefusal}
-use Rattle.sheets.specs.Tables.{kwTable, intertieTable, Filled, ReadSheet}
-use Rattle.sheets.proofs.SheetLaws.{first-words, read-stands}
-use Rattle.sheets.proofs.TableLaws.{limit-at, outside-at, load-share-at, existing-at, pre-ra-at, new-use-kw-at, new-use-intertie-at}
+use Rattle.readings.specs.Tables.{kwTable, intertieTable, Filled, ReadSheet}
+use Rattle.readings.proofs.SheetLaws.{first-words, read-stands}
+use Rattle.readings.proofs.TableLaws.{limit-at, outside-at, load-share-at, existing-at, pre-ra-at, new-use-kw-at, new-use-intertie-at}
 use Rattle.steps.specs.Inputs.{Inputs, ofSheet}
 use Rattle.steps.specs.Tables.{ofTables}
 use Rattle.steps.specs.Valid.{Valid}

@@ -5,7 +5,7 @@ use mathlib.Core.List.{List}
 use lib.ListN.{length}
 use Rattle.base.specs.Sums.{sumTo}
 use Rattle.base.specs.Words.{at, tab}
-use Rattle.sheets.specs.Tables.{loadShareSlot, existingSlot}
+use Rattle.readings.specs.Tables.{loadShareSlot, existingSlot}
 use Rattle.step5.specs.Shares.{step5Shares}
 use Rattle.reserving.specs.Vectors.{pairAt}
 

@@ -1,6 +1,6 @@
 // Steps 5 to 7: what each holder holds, its Step 5 share and its Step 7 total.
-use sheets::tables::EXISTING;
-use sheets::tables::LOAD_SHARES;
+use readings::tables::EXISTING;
+use readings::tables::LOAD_SHARES;
 ghost use mathlib.Core.Path.{_≡_};
 ghost use Prim.Native.Nat.{ℕ, _+_, _≤_, _<_};
 ghost use lib.ListN.{length};

@@ -3,8 +3,8 @@ mod figures;
 mod year;
 
 use base::Answer;
-use sheets::refusal;
-use sheets::tables::SLOTS;
+use readings::refusal;
+use readings::tables::SLOTS;
 use sheets::words;
 use state::layout::STATE_WORDS;
 ghost use mathlib.Core.Path.{_≡_};

@@ -1,6 +1,6 @@
 // Steps 2 to 7 in order, from the tables of a sheet that stands to the year's state.
 use super::figures;
-use sheets::tables::SLOTS;
+use readings::tables::SLOTS;
 ghost use mathlib.Core.Path.{_≡_};
 ghost use Prim.Native.Nat.{_≤_};
 ghost use lib.ListN.{length};

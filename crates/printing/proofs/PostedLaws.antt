@@ -13,7 +13,7 @@ use Rattle.base.specs.declared.Answer.{Answer}
 use Rattle.base.proofs.ChoiceLaws.{pick-by}
 use Rattle.sheets.specs.Sheet.{interties, holders}
 use Rattle.sheets.specs.Refusal.{sheetRefusal}
-use Rattle.sheets.proofs.SheetLaws.{first-words, standing}
+use Rattle.readings.proofs.SheetLaws.{first-words, standing}
 use Rattle.posting.specs.Post.{Posted, posted}
 use Rattle.io.specs.Counts.{Counts}
 use Rattle.text.specs.Written.{written}

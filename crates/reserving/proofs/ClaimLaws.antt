@@ -11,7 +11,7 @@ use Rattle.base.specs.Sums.{sumTo}
 use Rattle.base.specs.Words.{at, tab}
 use Rattle.base.proofs.SumLaws.{sumTo-add}
 use Rattle.base.proofs.WordLaws.{at-tab, length-tab, tab-same}
-use Rattle.sheets.specs.Tables.{existingSlot, preRaSlot, newUseSlot}
+use Rattle.readings.specs.Tables.{existingSlot, preRaSlot, newUseSlot}
 use Rattle.new_use.specs.NewUse.{NewUse, newUse}
 use Rattle.share_out.specs.Rule.{Outcome}
 use Rattle.interties.specs.Pairs.{atPair}

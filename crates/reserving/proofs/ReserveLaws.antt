@@ -14,7 +14,7 @@ use Rattle.interties.specs.Rule.{grantOn}
 use Rattle.interties.proofs.HolderLaws.{among-same}
 use Rattle.interties.proofs.PairLaws.{at-fillPairs, fillPairs-same}
 use Rattle.new_use.specs.NewUse.{NewUse, newUse}
-use Rattle.sheets.specs.Tables.{existingSlot, preRaSlot, newUseSlot}
+use Rattle.readings.specs.Tables.{existingSlot, preRaSlot, newUseSlot}
 use Rattle.steps.specs.Inputs.{Inputs}
 use Rattle.steps.specs.Tables.{ofTables}
 use Rattle.steps.specs.Step2.{available, loadShareQuantity}

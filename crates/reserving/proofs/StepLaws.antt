@@ -17,7 +17,7 @@ use Rattle.base.proofs.ChoiceLaws.{pick-by, pick-true, pick-false, and-left, an
 use Rattle.base.proofs.SumLaws.{sumTo-same, sumTo-bound, allTo-each, allTo-all}
 use Rattle.base.proofs.WordLaws.{at-tab, length-tab, tab-same, fill-front, fill-same}
 use Rattle.interties.specs.Pairs.{fillPairs}
-use Rattle.sheets.specs.Tables.{limitSlot, outsideSlot, loadShareSlot}
+use Rattle.readings.specs.Tables.{limitSlot, outsideSlot, loadShareSlot}
 use Rattle.sheets.proofs.BaseMore.{allTo-same}
 use Rattle.steps.specs.Inputs.{Inputs}
 use Rattle.steps.specs.Tables.{ofTables}

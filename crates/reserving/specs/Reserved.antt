@@ -7,7 +7,7 @@ use Rattle.base.specs.Choice.{pick}
 use Rattle.base.specs.Sums.{allTo}
 use Rattle.base.specs.Words.{at, fill}
 use Rattle.interties.specs.Pairs.{fillPairs}
-use Rattle.sheets.specs.Tables.{limitSlot, loadShareSlot}
+use Rattle.readings.specs.Tables.{limitSlot, loadShareSlot}
 use Rattle.steps.specs.Inputs.{Inputs}
 use Rattle.steps.specs.Tables.{ofTables}
 use Rattle.steps.specs.Step2.{availableTotal}

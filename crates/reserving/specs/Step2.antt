@@ -5,7 +5,7 @@ use mathlib.Core.List.{List}
 use lib.ListN.{length}
 use Rattle.base.specs.Sums.{sumTo}
 use Rattle.base.specs.Words.{at, tab}
-use Rattle.sheets.specs.Tables.{limitSlot, outsideSlot}
+use Rattle.readings.specs.Tables.{limitSlot, outsideSlot}
 
 -- the sheet's table of kW with limits in range, load shares in range, and room for what Step 2 finds
 pub record Step2Given (kw loads pools quantities : List ℕ) : Type 0 where

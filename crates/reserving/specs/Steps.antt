@@ -5,7 +5,7 @@ use mathlib.Core.List.{List}
 use lib.ListN.{length}
 use Rattle.base.specs.Words.{at, tab, fill}
 use Rattle.interties.specs.Pairs.{fillPairs}
-use Rattle.sheets.specs.Tables.{limitSlot, loadShareSlot}
+use Rattle.readings.specs.Tables.{limitSlot, loadShareSlot}
 use Rattle.steps.specs.Inputs.{Inputs}
 use Rattle.steps.specs.Tables.{ofTables}
 use Rattle.steps.specs.Step2.{availableTotal}

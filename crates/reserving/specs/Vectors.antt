@@ -7,7 +7,7 @@ use Rattle.base.specs.Sums.{sumTo}
 use Rattle.base.specs.Words.{at, tab}
 use Rattle.interties.specs.Pairs.{fillPairs}
 use Rattle.interties.specs.Rule.{grantOn}
-use Rattle.sheets.specs.Tables.{existingSlot, preRaSlot, newUseSlot}
+use Rattle.readings.specs.Tables.{existingSlot, preRaSlot, newUseSlot}
 use Rattle.new_use.specs.NewUse.{NewUse, newUse}
 
 abbrev pub pairAt : ℕ → ℕ → ℕ

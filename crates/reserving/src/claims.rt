@@ -1,13 +1,13 @@
 // The claims of Steps 4a and 4b, a table of the pairs with a row of 48 words for each holder.
 use super::vectors;
-use sheets::tables::EXISTING;
-use sheets::tables::NEW_USE;
-use sheets::tables::PRE_RA;
+use readings::tables::EXISTING;
+use readings::tables::NEW_USE;
+use readings::tables::PRE_RA;
 ghost use mathlib.Core.Path.{_≡_};
 ghost use Prim.Native.Nat.{ℕ, _+_, _-_, _*_, _≤_, _<_};
 ghost use lib.ListN.{length};
 ghost use Rattle.base.specs.Words.{at};
-ghost use Rattle.sheets.specs.Tables.{existingSlot, preRaSlot};
+ghost use Rattle.readings.specs.Tables.{existingSlot, preRaSlot};
 ghost use Rattle.reserving.specs.Vectors.{Pairs, keptFrom};
 
 // Step 4a: a claim is the part of Pre-RA kW above E at that pair.

@@ -5,7 +5,7 @@ ghost use mathlib.Core.Path.{_≡_};
 ghost use Prim.Native.Nat.{ℕ, _+_, _-_, _*_, _≤_, _<_};
 ghost use lib.ListN.{length};
 ghost use Rattle.base.specs.Words.{at};
-ghost use Rattle.sheets.specs.Tables.{existingSlot, preRaSlot};
+ghost use Rattle.readings.specs.Tables.{existingSlot, preRaSlot};
 ghost use Rattle.reserving.specs.Vectors.{keptFrom, SharedOver};
 ghost use Rattle.reserving.specs.Reserve.{Reserving, Reserved};
 

@@ -4,8 +4,8 @@ mod granting;
 mod step_2;
 mod vectors;
 
-use sheets::tables::LOAD_SHARES;
-use sheets::tables::SLOTS;
+use readings::tables::LOAD_SHARES;
+use readings::tables::SLOTS;
 ghost use mathlib.Core.Path.{_≡_};
 ghost use Prim.Native.Nat.{ℕ, _+_, _≤_};
 ghost use lib.Dec.{leb};

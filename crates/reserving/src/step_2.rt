@@ -1,6 +1,6 @@
 // Step 2: what is available on each intertie, T, and the Load Share Quantities.
 use super::vectors;
-use sheets::tables::OUTSIDE;
+use readings::tables::OUTSIDE;
 ghost use mathlib.Core.Path.{_≡_};
 ghost use Prim.Native.Nat.{ℕ, _*_, _/_, _≤_, _<_};
 ghost use lib.ListN.{length};

@@ -1,11 +1,11 @@
 // Rows and tables of numbers, word by word.
-use sheets::tables::EXISTING;
+use readings::tables::EXISTING;
 ghost use mathlib.Core.Path.{_≡_};
 ghost use Prim.Native.Nat.{ℕ, _+_, _-_, _*_, _≤_, _<_};
 ghost use lib.ListN.{length};
 ghost use Rattle.base.specs.Sums.{sumTo};
 ghost use Rattle.base.specs.Words.{at, tab};
-ghost use Rattle.sheets.specs.Tables.{existingSlot};
+ghost use Rattle.readings.specs.Tables.{existingSlot};
 ghost use Rattle.reserving.specs.Vectors.{pairAt};
 
 // What a has above b, 0 if nothing.

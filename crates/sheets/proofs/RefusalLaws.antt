@@ -43,11 +43,15 @@ whole s n e m =
 pub whole-by : (s : List ℕ) (b : Bool) → b ≡ badLength s → b ≡ false → Whole s (count s)
 whole-by s b e f = whole s (count s) (sym e ∙ f) refl
 
+-- a number that is read as 0 of a short sheet
+pub long-enough : (s : List ℕ) (n x : ℕ) → badLength s ≡ false → n ≡ pick (ltb (length s) 12) 0 x → n ≡ x
+long-enough s n x e m =
+    let long : 12 ≤ length s = omega (arith, whole s (count s) e refl) in
+    rw (le-ltb (length s) 12 long) at m
+
 -- the same, with n for the count as a short sheet has it too
 pub counted : (s : List ℕ) (n : ℕ) → badLength s ≡ false → n ≡ pick (ltb (length s) 12) 0 (count s) → Whole s n
-counted s n e m =
-    let long : 12 ≤ length s = omega (arith, whole s (count s) e refl) in
-    whole s n e (rw (le-ltb (length s) 12 long) at m)
+counted s n e m = whole s n e (long-enough s n (count s) e m)
 
 -- the sizes of a sheet that number 2 lets pass
 pub record Sized (s : List ℕ) : Type 0 where

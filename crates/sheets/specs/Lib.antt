@@ -1,7 +1,4 @@
 pub mod Key
 pub mod Sheet
 pub mod Refusal
-pub mod Kinds
 pub mod Reading
-pub mod Tables
-pub mod Deciding

@@ -5,7 +5,7 @@ use mathlib.Core.List.{List}
 use Rattle.base.specs.Sums.{sumTo}
 use Rattle.sheets.specs.Sheet as Sheet
 use Rattle.sheets.specs.Refusal.{sheetRefusal}
-use Rattle.sheets.proofs.SheetLaws.{Stands, standing}
+use Rattle.readings.proofs.SheetLaws.{Stands, standing}
 use Rattle.steps.specs.Inputs.{ofSheet}
 use Rattle.steps.specs.Valid.{Valid}
 use Rattle.steps.specs.Step4a.{existingOn, leftByStep3, preRaClaim, preRaShared, preRaGranted, leftByStep4a}

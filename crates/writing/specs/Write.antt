@@ -6,7 +6,7 @@ use lib.Dec.{leb}
 use lib.ListN.{length, set}
 use Rattle.base.specs.Choice.{pick}
 use Rattle.base.specs.Words.{at}
-use Rattle.sheets.specs.Tables.{limitSlot, outsideSlot, loadShareSlot, existingSlot}
+use Rattle.readings.specs.Tables.{limitSlot, outsideSlot, loadShareSlot, existingSlot}
 use Rattle.state.specs.Layout.{stateWords, intertiesAt, holdersAt, stageAt, lastDayAt}
 use Rattle.rows.specs.Rows.{fillRow, fillPairs}
 

@@ -1,7 +1,7 @@
 // The opened state, written from the sheet's table of kilowatts and the steps' figures, group by group
 // in the order of its rows.
-use sheets::tables;
-use sheets::tables::SLOTS;
+use readings::tables;
+use readings::tables::SLOTS;
 use state::layout;
 use state::layout::STATE_WORDS;
 ghost use mathlib.Core.Path.{_≡_};
@@ -9,7 +9,7 @@ ghost use Prim.Native.Nat.{ℕ, _+_, _%_, _≤_, _<_};
 ghost use lib.ListN.{length};
 ghost use Rattle.base.specs.Words.{at};
 ghost use Rattle.rows.specs.Rows.{fillRow, fillPairs};
-ghost use Rattle.sheets.specs.Tables.{existingSlot};
+ghost use Rattle.readings.specs.Tables.{existingSlot};
 ghost use Rattle.writing.specs.Write.{Sizes, fitSizes, sizesWritten, figuresWritten, reservedWritten, stageWritten, rowsCleared, pairsCleared, written};
 
 // Whether a state of so many words has room, and the sizes are in range.

@@ -36,7 +36,7 @@ pub extern "C" fn zankurbe_share_out(
 pub extern "C" fn zankurbe_sheet_refusal(sheet: &[u8]) -> u32
     ensures { λ r. ⌜ r ≡ sheetRefusal (now (sheet .entry)) ⌝ }
 {
-    sheets::refusal::sheet_refusal(sheet)
+    readings::refusal::sheet_refusal(sheet)
 }
 
 // The refusal that every call of the year begins with: 5, 6, or 0.

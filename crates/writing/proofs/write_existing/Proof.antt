@@ -5,7 +5,7 @@ use native.Mathlib.Omega.{arith}
 use lib.ListN.{length}
 use denote.Ref.{now}
 use Rattle.base.specs.Words.{at}
-use Rattle.sheets.specs.Tables.{existingSlot}
+use Rattle.readings.specs.Tables.{existingSlot}
 use Rattle.rows.specs.Rows.{fillPairs}
 use Rattle.rows.proofs.RowLaws.{fillPairs-none, fillPairs-turn}
 use Rattle.writing.specs.Write.{low, existingWritten}

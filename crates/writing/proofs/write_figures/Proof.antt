@@ -6,7 +6,7 @@ use lib.ListN.{length}
 use denote.Ref.{now}
 use Rattle.base.specs.Words.{at}
 use Rattle.rows.specs.Rows.{fillRow}
-use Rattle.sheets.specs.Tables.{limitSlot, outsideSlot, loadShareSlot}
+use Rattle.readings.specs.Tables.{limitSlot, outsideSlot, loadShareSlot}
 use Rattle.writing.specs.Write.{low, rowWords}
 use Rattle.writing.proofs.StoreLaws.{stored-row}
 use borrow.Author.Needs.{needs}

@@ -7,7 +7,7 @@ use lib.ListN.{length}
 use denote.Ref.{now}
 use borrow.Rule.Slice.PartMut.{midOf, mid-len}
 use Rattle.base.specs.Words.{at}
-use Rattle.sheets.specs.Tables.{existingSlot, preRaSlot}
+use Rattle.readings.specs.Tables.{existingSlot, preRaSlot}
 use Rattle.reserving.proofs.PartLaws.{Rows, rows-none, rows-next, part-row}
 use borrow.Author.Needs.{needs}
 use Rattle.reserving.proofs.claims.pre_ra_claims.Statement.{statement}

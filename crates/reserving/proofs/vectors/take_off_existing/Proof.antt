@@ -6,7 +6,7 @@ use lib.ListN.{length}
 use denote.Ref.{now}
 use mathlib.Core.List.{List}
 use Rattle.base.specs.Words.{at}
-use Rattle.sheets.specs.Tables.{existingSlot}
+use Rattle.readings.specs.Tables.{existingSlot}
 use Rattle.reserving.proofs.VectorLaws.{lowered, lowered-none, lowered-next}
 use borrow.Author.Needs.{needs}
 use Rattle.reserving.proofs.vectors.take_off_existing.Statement.{statement}

@@ -1,0 +1,105 @@
+-- `readings::rules::records_stand` meets its contract: the tests of n records (`Tested`), of one more, and of all. The measure is the
+-- records still to come.
+use Prim.Native.Nat.{ℕ, _-_}
+use mathlib.Core.Path.{_≡_, refl, _∙_}
+use native.Mathlib.Omega.{arith}
+use borrow.Author.Needs.{needs}
+use denote.Ref.{now}
+use Rattle.sheets.specs.Sheet.{count}
+use Rattle.sheets.specs.Reading.{readAt, readOf}
+use Rattle.sheets.proofs.RefusalLaws.{whole}
+use Rattle.sheets.proofs.ReadingLaws.{RecordRead, of-whole, record-read, at-end}
+use Rattle.readings.proofs.PassLaws.{Tested, tested-none, tested-more, tested-all}
+use Rattle.readings.proofs.rules.records_stand.Statement.{statement}
+use Rattle.readings.proofs.rules.records_stand.Tie as tie
+
+abbrev Inv-loop : tie.InvT-loop
+Inv-loop sheet interties holders count stand₀ cursor₀ stand cursor = Tested sheet stand (cursor .at)
+
+abbrev μ-loop : tie.MeasureT-loop
+μ-loop sheet interties holders count stand₀ cursor₀ stand cursor = Rattle.sheets.specs.Sheet.count sheet - cursor .at
+
+-- before the loop: the words that were read, and the function's entry
+abbrev words : tie.At-loop Inv-loop μ-loop → tie.After-record-count Inv-loop μ-loop
+words c = c .before .before
+
+abbrev entry : tie.At-loop Inv-loop μ-loop → tie.Start Inv-loop μ-loop
+entry c = words c .before .before .before .before
+
+-- what a turn reads is the sheet's record
+at-place : (c : tie.At-loop Inv-loop μ-loop) (n : ℕ) → n ≡ count (now (entry c .args .sheet))
+    → readOf (now (entry c .args .sheet)) n (c .loop .cursor .at) ≡ readAt (now (entry c .args .sheet)) (c .loop .cursor .at)
+at-place c n e = of-whole _ n _ (whole _ n (entry c .pre) e)
+
+-- the record that a turn is about
+here : (c : tie.After-read Inv-loop μ-loop) →
+    let head : tie.At-loop Inv-loop μ-loop = c .before .before .before in
+    RecordRead (now (entry head .args .sheet)) (head .loop .cursor .at) (c .read .given .0 .0) (c .read .given .0 .1 .0)
+here c = record-read _ _ _ _ _ (entry (c .before .before .before) .pre) (c .before .before .read-record .ensures ∙ at-place (c .before .before .before) _ (words (c .before .before .before) .record-count .ensures)) (c .read .given .1)
+
+intertie-count-requires : tie.Need-intertie-count-requires Inv-loop μ-loop
+intertie-count-requires c κs = c .before .pre
+
+holder-count-requires : tie.Need-holder-count-requires Inv-loop μ-loop
+holder-count-requires c κs = c .before .before .pre
+
+record-count-requires : tie.Need-record-count-requires Inv-loop μ-loop
+record-count-requires c κs = c .before .before .before .pre
+
+cast-count : tie.Need-cast-count Inv-loop μ-loop
+cast-count c = search needs
+
+first-requires : tie.Need-first-requires Inv-loop μ-loop
+first-requires c κs = search needs
+
+loop-holds : tie.Need-loop-holds Inv-loop μ-loop
+loop-holds c = tested-none _ _ (c .first .ensures)
+
+read-record-requires : tie.Need-read-record-requires Inv-loop μ-loop
+read-record-requires c κs = search needs
+
+enum-known-read : tie.Need-enum-known-read Inv-loop μ-loop
+enum-known-read c = search needs
+
+record-stands-requires : tie.Need-record-stands-requires Inv-loop μ-loop
+record-stands-requires c κs = search needs
+
+loop-less : tie.Need-loop-less Inv-loop μ-loop
+loop-less c = omega (arith, here (c .before .before))
+
+loop-again : tie.Need-loop-again Inv-loop μ-loop
+loop-again c =
+    let found = c .before .before in
+    let head = found .before .before .before in
+    let now = here found in
+    tested-more _ _ _ (head .loop .inv) _ _ _ _ _ _ (now .inside) (now .key-is) (now .kw-is)
+    (words head .before .before .intertie-count .ensures) (words head .before .holder-count .ensures) (c .record-stands .ensures) (now .next-is)
+
+enum-told : tie.Need-enum-told Inv-loop μ-loop
+enum-told c = search needs
+
+returns : tie.Need-returns Inv-loop μ-loop
+returns c =
+    let head = c .before .before .before in
+    tested-all _ _ _ (head .loop .inv)
+    (at-end _ _ _ (entry head .pre) (c .before .before .read-record .ensures ∙ at-place head _ (words head .record-count .ensures)) (c .enum-told .given .1))
+
+pub records-stand-spec : {M : Type 1} → statement M
+records-stand-spec =
+    tie.close
+    (tie.spec
+    Inv-loop
+    μ-loop
+    intertie-count-requires
+    holder-count-requires
+    record-count-requires
+    cast-count
+    first-requires
+    loop-holds
+    read-record-requires
+    enum-known-read
+    record-stands-requires
+    loop-less
+    loop-again
+    enum-told
+    returns)

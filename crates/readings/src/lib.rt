@@ -1,0 +1,5 @@
+// One reading of a sheet: refusals 1 to 4, and the tables of its records.
+pub mod refusal;
+mod rules;
+mod sizes;
+pub mod tables;
