@@ -51,3 +51,9 @@ pub or-right : (a b : Bool) → a || b ≡ false → b ≡ false
 or-right true true e = e
 or-right true false e = refl
 or-right false b e = e
+
+-- tests that hold of each other are equal
+pub same-test : (a b : Bool) → (a ≡ true → b ≡ true) → (b ≡ true → a ≡ true) → a ≡ b
+same-test true b f g = sym (f refl)
+same-test false true f g = g refl
+same-test false false f g = refl

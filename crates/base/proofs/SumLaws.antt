@@ -159,3 +159,12 @@ allTo-fails (suc n) p i l f =
     let r : allTo n p ≡ false = allTo-fails n p i m f in
     rw r refl)
     (below-suc l)
+
+-- the same tests hold together
+pub allTo-same : (n : ℕ) (p q : ℕ → Bool) → ((i : ℕ) → i < n → p i ≡ q i) → allTo n p ≡ allTo n q
+unfolding allTo
+allTo-same zero p q h = refl
+allTo-same (suc n) p q h =
+    let e : allTo n p ≡ allTo n q = allTo-same n p q (λ i l. h i (le-step l)) in
+    let t : p n ≡ q n = h n (lt-suc-self n) in
+    cc

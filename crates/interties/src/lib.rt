@@ -15,11 +15,6 @@ const MOST_INTERTIES: usize = 48;
 
 const MOST_HOLDERS: usize = 32;
 
-// The most that a share-out takes.
-const MOST_POOL_KW: u64 = 20_000_000;
-
-const MOST_WEIGHT: u64 = 100_000_000;
-
 // A table of the pairs has a row of 48 words for each of 32 holders.
 const ROW: usize = 48;
 
@@ -93,7 +88,7 @@ fn weights_fit(weights: &[u64], holders: usize) -> bool
     let mut fit = true;
     let mut h = 0;
     while h < holders {
-        fit = fit & (weights[h] <= MOST_WEIGHT);
+        fit = fit & (weights[h] <= share_out::MOST_WEIGHT);
         h += 1;
     }
     fit
@@ -167,7 +162,7 @@ fn share_out_on(
     ensures { λ r. ⌜ SharedOn intertie (length (now (claimed .entry))) (now (pools .entry)) (now (claims .entry)) (now (weights .entry)) (now (grants .entry)) r (now (grants .exit)) ⌝ }
 {
     let pool = pools[intertie];
-    if weighable & (pool <= MOST_POOL_KW) {
+    if weighable & (pool <= share_out::MOST_POOL_KW) {
         let total = claimed_on(pool, claims, intertie, claimed.len());
         if total <= pool {
             grant_claims(claims, intertie, claimed.len(), grants);

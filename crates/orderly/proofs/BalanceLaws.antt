@@ -11,13 +11,13 @@ use lib.ListN.{length}
 use borrow.Author.Tests.{lt-ltb, ltb-true}
 use Rattle.base.specs.Sums.{sumTo, allTo}
 use Rattle.base.specs.Words.{at, fill}
-use Rattle.base.proofs.ChoiceLaws.{and-both}
-use Rattle.base.proofs.SumLaws.{sumTo-add, sumTo-bound, sumTo-term}
+use Rattle.base.proofs.ChoiceLaws.{and-both, same-test, and-left, and-right}
+use Rattle.base.proofs.SumLaws.{sumTo-add, sumTo-bound, sumTo-term, allTo-same, sumTo-more}
 use Rattle.base.proofs.WordLaws.{at-fill, length-fill}
 use Rattle.state.specs.Layout.{interties, holders, limitOf, existingOf, preRaOf, newUseOf, placedOf, takenOf}
 use Rattle.state.specs.Orderly.{limitsInRange, balanced, intertieKw}
 use Rattle.orderly.specs.Check.{pairKw, pairFits, twoKw, twoFit, Cleared, Added, limitMet}
-use Rattle.state.proofs.BaseMore.{same-test, both, both-left, both-right, each-le, each-eq, each-pair, all-pairs, allTo-same, allTo-both, allTo-next, tests-turn, sumTo-next}
+use Rattle.state.proofs.BaseMore.{each-le, each-eq, each-pair, all-pairs, allTo-both, allTo-next, tests-turn}
 
 -- the kW of a pair, its words added in 32 bits
 pub pair-kw-wraps :
@@ -31,16 +31,16 @@ pair-kw-wraps s h i {e} {p} {n} {l} {t} {ep} {reserved} {most} {r} a b c d f w1 
     let four : r ≡ (e + p + n + l + t) % 2 ^ 32 = w4 ∙ ap (λ (x : ℕ). (x + t) % 2 ^ 32) three ∙ mod-add-mod (e + p + n + l) (2 ^ 32) t in
     four ∙ ap (λ (x : ℕ). x % 2 ^ 32) (cc)
 
--- the bits of two words together are below 2 ^ k where both words are
+-- the bits of two words together are below 2 ^ k where and-both words are
 pub or-below : (k a b : ℕ) → ltb (bitOr a b) (2 ^ k) ≡ (ltb a (2 ^ k) && ltb b (2 ^ k))
 or-below k a b =
     let sum = or-add-and a b in
     same-test (ltb (bitOr a b) (2 ^ k)) (ltb a (2 ^ k) && ltb b (2 ^ k))
-    (λ (e : ltb (bitOr a b) (2 ^ k) ≡ true). both (ltb a (2 ^ k)) (ltb b (2 ^ k))
+    (λ (e : ltb (bitOr a b) (2 ^ k) ≡ true). and-both (ltb a (2 ^ k)) (ltb b (2 ^ k))
     (lt-ltb a (2 ^ k) (omega (arith, sum, and-le-r a b, ltb-true (bitOr a b) (2 ^ k) e)))
     (lt-ltb b (2 ^ k) (omega (arith, sum, and-le-l a b, ltb-true (bitOr a b) (2 ^ k) e))))
     (λ (e : (ltb a (2 ^ k) && ltb b (2 ^ k)) ≡ true). lt-ltb (bitOr a b) (2 ^ k)
-    (or-lt k a b (ltb-true a (2 ^ k) (both-left (ltb a (2 ^ k)) (ltb b (2 ^ k)) e)) (ltb-true b (2 ^ k) (both-right (ltb a (2 ^ k)) (ltb b (2 ^ k)) e))))
+    (or-lt k a b (ltb-true a (2 ^ k) (and-left (ltb a (2 ^ k)) (ltb b (2 ^ k)) e)) (ltb-true b (2 ^ k) (and-right (ltb a (2 ^ k)) (ltb b (2 ^ k)) e))))
 
 -- words and their sum in 32 bits are below 2 ^ 25 where the sum is
 small-words :
@@ -151,7 +151,7 @@ added-one s sums next h bits b most added fits e =
       held =
           λ i l.
           sums-turn sums next (interties s) (λ j. pairKw s h j) (λ j. sumTo h (λ k. pairKw s k j)) e (omega (arith, added .places)) (added .held) i l
-          ∙ ap (λ (x : ℕ). x % 2 ^ 32) (sym (sumTo-next h (λ k. pairKw s k i)));
+          ∙ ap (λ (x : ℕ). x % 2 ^ 32) (sym (sumTo-more h (λ k. pairKw s k i)));
     }
 
 pub added-two :
@@ -178,7 +178,7 @@ added-two s sums next two bits b most added fits e =
           λ i l.
           sums-turn sums next (interties s) (λ j. twoKw s h j) (λ j. sumTo h (λ k. pairKw s k j)) e (omega (arith, added .places)) (added .held) i l
           ∙ ap (λ (x : ℕ). x % 2 ^ 32)
-          (omega (arith, sumTo-next h (λ k. pairKw s k i), sumTo-next (h + 1) (λ k. pairKw s k i)))
+          (omega (arith, sumTo-more h (λ k. pairKw s k i), sumTo-more (h + 1) (λ k. pairKw s k i)))
           ∙ ap (λ (x : ℕ). sumTo x (λ k. pairKw s k i) % 2 ^ 32) after;
     }
 
@@ -263,13 +263,13 @@ limits-balance-is s sums n bits count most {range} {met} tested added c =
     let a : range ≡ allTo (interties s) (λ i. leb (limitOf s i) 20000000) = rw count at tested in
     same-test (range && small && met) (limitsInRange s && balanced s)
     (λ (e : (range && small && met) ≡ true).
-    let two : (range && small) ≡ true = both-left (range && small) met e in
-    let fits = each-pair (holders s) (interties s) (λ h i. pairFits s h i) (sym b ∙ both-right range small two) in
-    and-both (limitsInRange s) (balanced s) (sym a ∙ both-left range small two)
-    (sym (fits-tell s sums most held fits) ∙ sym c ∙ both-right (range && small) met e))
+    let two : (range && small) ≡ true = and-left (range && small) met e in
+    let fits = each-pair (holders s) (interties s) (λ h i. pairFits s h i) (sym b ∙ and-right range small two) in
+    and-both (limitsInRange s) (balanced s) (sym a ∙ and-left range small two)
+    (sym (fits-tell s sums most held fits) ∙ sym c ∙ and-right (range && small) met e))
     (λ (e : (limitsInRange s && balanced s) ≡ true).
-    let in-range = both-left (limitsInRange s) (balanced s) e in
-    let met-all = both-right (limitsInRange s) (balanced s) e in
+    let in-range = and-left (limitsInRange s) (balanced s) e in
+    let met-all = and-right (limitsInRange s) (balanced s) e in
     let fits = met-fits s in-range met-all in
     and-both (range && small) met
     (and-both range small (a ∙ in-range) (b ∙ all-pairs (holders s) (interties s) (λ h i. pairFits s h i) fits))

@@ -11,12 +11,12 @@ use lib.Pow.{ones-split, ones-lt, le-ones, lt-of-le-ones, high}
 use borrow.Author.Tests.{lt-ltb, le-leb, leb-true, ltb-true}
 use Rattle.base.specs.Choice.{pick}
 use Rattle.base.specs.Sums.{sumTo, allTo}
-use Rattle.base.proofs.ChoiceLaws.{and-both}
-use Rattle.base.proofs.SumLaws.{allTo-each, allTo-all}
+use Rattle.base.proofs.ChoiceLaws.{and-both, same-test, and-left, and-right}
+use Rattle.base.proofs.SumLaws.{allTo-each, allTo-all, allTo-same}
 use Rattle.state.specs.Layout.{stateWords, interties, holders, loadShareOf, step5ShareOf, step7TotalOf, reservedOf, unplacedOf, sellersOf, takingsOf, placedOf, lockedOf, termOf, pendingOf, ofHolder, stageOf}
 use Rattle.state.specs.Orderly.{orderly, sizesInRange, stageInRange, limitsInRange, loadSharesInRange, balanced, lockedWithinPlaced, pendingWithinUnplaced, kwInRange, takingsInRange, sellersAreHolders, termsFit, termFits, noRequests}
 use Rattle.orderly.specs.Check.{Sized, fieldsInRange, rowsInOrder, lockFits, pairLockFits, unlocked, mostPending}
-use Rattle.state.proofs.BaseMore.{fault, same-test, both-left, both-right, and-left-comm, allTo-same, allTo-both, allTo-pairs-both, four, tests-turn, or-none}
+use Rattle.state.proofs.BaseMore.{fault, and-left-comm, allTo-both, allTo-pairs-both, four, tests-turn, or-none}
 
 -- a term at most 30, and 0 exactly where nothing is locked
 term-test : (locked term : ℕ) → (leb term 30 && Bool·beq (eqb locked 0) (eqb term 0)) ≡ termFits locked term
@@ -89,15 +89,15 @@ no-lock-fits s h e t =
     sym (allTo-all (interties s) (λ i. pairLockFits s h i) (λ i l.
     let none : unlocked s h i ≡ true = allTo-each (interties s) (λ j. unlocked s h j) (sym e ∙ t) i l in
     unlocked-fits (placedOf s h i) (lockedOf s h i) (termOf s h i)
-    (leb-true (lockedOf s h i) 0 (both-left (leb (lockedOf s h i) 0) (leb (termOf s h i) 0) none))
-    (leb-true (termOf s h i) 0 (both-right (leb (lockedOf s h i) 0) (leb (termOf s h i) 0) none))))
+    (leb-true (lockedOf s h i) 0 (and-left (leb (lockedOf s h i) 0) (leb (termOf s h i) 0) none))
+    (leb-true (termOf s h i) 0 (and-right (leb (lockedOf s h i) 0) (leb (termOf s h i) 0) none))))
 
 -- words are all 0 where their sum is
 zero-both : (a b : ℕ) → leb (a + b) 0 ≡ (leb a 0 && leb b 0)
 zero-both a b =
     same-test (leb (a + b) 0) (leb a 0 && leb b 0)
     (λ (e : leb (a + b) 0 ≡ true). and-both _ _ (le-leb a 0 (omega (arith, leb-true (a + b) 0 e))) (le-leb b 0 (omega (arith, leb-true (a + b) 0 e))))
-    (λ (e : leb a 0 && leb b 0 ≡ true). le-leb (a + b) 0 (omega (arith, leb-true a 0 (both-left (leb a 0) (leb b 0) e), leb-true b 0 (both-right (leb a 0) (leb b 0) e))))
+    (λ (e : leb a 0 && leb b 0 ≡ true). le-leb (a + b) 0 (omega (arith, leb-true a 0 (and-left (leb a 0) (leb b 0) e), leb-true b 0 (and-right (leb a 0) (leb b 0) e))))
 
 zero-sum : (n : ℕ) (f : ℕ → ℕ) → allTo n (λ i. leb (f i) 0) ≡ leb (sumTo n f) 0
 unfolding allTo sumTo
@@ -179,7 +179,7 @@ unfolding sizesInRange
 sized s long e =
     let n = interties s in
     let m = holders s in
-    let sizes = four (leb 1 n) (leb n 48) (leb 1 m) (leb m 32) (both-left (sizesInRange s) (stageInRange s) e) in
+    let sizes = four (leb 1 n) (leb n 48) (leb 1 m) (leb m 32) (and-left (sizesInRange s) (stageInRange s) e) in
     record {
       long = long;
       interties-most = leb-true n 48 (sizes .1);

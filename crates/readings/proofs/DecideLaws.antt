@@ -11,12 +11,12 @@ use lib.ListN.{length, List·getD-eq-default}
 use Rattle.base.specs.Sums.{sumTo, allTo}
 use Rattle.base.specs.Words.{at}
 use Rattle.base.proofs.WordLaws.{length-tab, at-tab}
-use Rattle.base.proofs.SumLaws.{sumTo-bound, sumTo-same}
+use Rattle.base.proofs.SumLaws.{sumTo-bound, sumTo-same, allTo-same}
 use Rattle.sheets.specs.Sheet.{interties, holders, count, kwAt, sumOver, howMany, isLimit, isLoadShare, isNewUse, limit, outside, existing, existingOn}
 use Rattle.sheets.specs.Refusal.{within, badLength, badSizes, recordsStand, oneLimitEach, oneLoadShareEach, noRankTwice, rulesHold, limitsHold, sheetRefusal}
 use Rattle.readings.specs.Tables.{slots, slotOf, limitSlot, outsideSlot, loadShareSlot, existingSlot, newUseSlot, table, countTable, kwTable, Filled, ReadSheet}
 use Rattle.readings.specs.Deciding.{tableRulesHold, tableExistingOn, tableLimitHolds, Modest}
-use Rattle.sheets.proofs.BaseMore.{allTo-same, allTo-rows, le-or-lt}
+use Rattle.sheets.proofs.BaseMore.{allTo-rows, le-or-lt}
 use Rattle.readings.proofs.TableLaws.{at-limit, at-load-share, at-new-use, limit-at, outside-at, existing-at}
 use Rattle.sheets.proofs.RefusalLaws.{sized}
 use Rattle.sheets.proofs.OverLaws.{over-all}

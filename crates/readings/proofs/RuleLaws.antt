@@ -7,11 +7,11 @@ use native.Mathlib.Omega.{arith}
 use borrow.Author.Tests.{eqb-true, eqb-false, le-leb, lt-leb, ne-eqb, leb-true, leb-false}
 use lib.Dec.{ltb, leb, eqb}
 use Rattle.base.specs.Choice.{pick}
-use Rattle.base.proofs.ChoiceLaws.{and-left, and-right}
+use Rattle.base.proofs.ChoiceLaws.{and-left, and-right, pick-by}
 use Rattle.sheets.specs.Key.{kindOf, holderOf, intertieOf, rankOf, yearsOf}
 use Rattle.sheets.specs.Refusal.{recordStands, within}
 use Rattle.readings.specs.Kinds.{namesHolder, namesIntertie, namesRank, namesYears, leastKw, mostKw}
-use Rattle.sheets.proofs.BaseMore.{pick-cases, le-or-lt}
+use Rattle.sheets.proofs.BaseMore.{le-or-lt}
 
 -- one of two tests, as a third says
 pub one-of : (n a b : Bool) → (n && a || not n && b) ≡ pick n a b
@@ -67,18 +67,18 @@ module _ (I H kw k h i r y : ℕ) where
   unfolding recordStands
   by-its-kind key ek eh ei er ey =
       rw (← ek, ← eh, ← ei, ← er, ← ey)
-      (pick-cases (λ (b : Bool). by-kind ≡ b) (eqb k 1) _ _
+      (pick-by (λ (b : Bool). by-kind ≡ b) (eqb k 1) _ _
       (λ t. let e = eqb-true k 1 t in simp (e, le-leb 0 kw zero-le))
-      (λ n₁. pick-cases (λ (b : Bool). by-kind ≡ b) (eqb k 2) _ _
+      (λ n₁. pick-by (λ (b : Bool). by-kind ≡ b) (eqb k 2) _ _
       (λ t. let e = eqb-true k 2 t in simp e)
-      (λ n₂. pick-cases (λ (b : Bool). by-kind ≡ b) (eqb k 3) _ _
+      (λ n₂. pick-by (λ (b : Bool). by-kind ≡ b) (eqb k 3) _ _
       (λ t. let e = eqb-true k 3 t in simp (e, le-leb 0 kw zero-le))
-      (λ n₃. pick-cases (λ (b : Bool). by-kind ≡ b) (within 4 5 k) _ _
+      (λ n₃. pick-by (λ (b : Bool). by-kind ≡ b) (within 4 5 k) _ _
       (λ t.
       let l = leb-true 4 k (and-left (leb 4 k) (leb k 5) t) in
       let m = leb-true k 5 (and-right (leb 4 k) (leb k 5) t) in
       simp (n₁, n₃, ne-eqb k 6 (λ e. omega arith), le-leb 3 k (omega arith), le-leb k 6 (omega arith), lt-leb k 2 (omega arith), le-leb 4 k l, le-leb 1 k (omega arith)))
-      (λ n₄. pick-cases (λ (b : Bool). by-kind ≡ b) (eqb k 6) _ _
+      (λ n₄. pick-by (λ (b : Bool). by-kind ≡ b) (eqb k 6) _ _
       (λ t. let e = eqb-true k 6 t in simp e)
       (λ n₆. simp (no-kind (eqb-false k 1 n₁) (eqb-false k 2 n₂) (eqb-false k 3 n₃) n₄ (eqb-false k 6 n₆), and-false)))))))
 

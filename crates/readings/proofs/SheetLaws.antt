@@ -11,11 +11,12 @@ use lib.Dec.{leb, eqb}
 use Rattle.base.specs.Choice.{pick}
 use Rattle.base.specs.Sums.{allTo}
 use Rattle.base.proofs.SumLaws.{allTo-each}
+use Rattle.base.proofs.ChoiceLaws.{pick-by}
 use Rattle.sheets.specs.Key.{kindOf, holderOf, intertieOf, rankOf}
 use Rattle.sheets.specs.Sheet.{interties, holders, count, keyAt, kwAt, sumOver, howMany, kwOf, isLimit, isLoadShare, isNewUse, limit, outside, loadShare, existing, existingOn, preRa, newUseKw, newUseIntertie}
 use Rattle.sheets.specs.Refusal.{within, badLength, badSizes, ofHolder, noHolder, onIntertie, noIntertie, ranked, noRank, forYears, noYears, repeatable, recordStands, recordsStand, oneLimitEach, oneLoadShareEach, noRankTwice, rulesHold, limitsHold, sheetRefusal}
 use Rattle.readings.specs.Tables.{Filled, ReadSheet}
-use Rattle.sheets.proofs.BaseMore.{pick-cases, both, equal-two, equal-three}
+use Rattle.sheets.proofs.BaseMore.{both, equal-two, equal-three}
 use Rattle.sheets.proofs.RefusalLaws.{whole, Sized, sized}
 use Rattle.sheets.proofs.OverLaws.{over-passing, over-all}
 
@@ -37,11 +38,11 @@ pub kept : (I H key kw : ℕ) → recordStands I H key kw ≡ true → Kept I ke
 unfolding recordStands
 kept I H key kw =
     let P : Bool → Type 0 = λ b. b ≡ true → Kept I key kw in
-    pick-cases P (eqb (kindOf key) 1) _ _ (λ _ t. let p = two-of-five (noHolder key) (onIntertie I key) (noRank key) (noYears key) (leb kw 20_000_000) t in on-intertie (p .0) (leb-true kw 20_000_000 (p .1))) (λ _.
-    pick-cases P (eqb (kindOf key) 2) _ _ (λ _ t. repeated (noHolder key) (noRank key) (noYears key) t) (λ _.
-    pick-cases P (eqb (kindOf key) 3) _ _ (λ k t. of-holder (eqb-true (kindOf key) 3 k) (two-of-five (ofHolder H key) (noIntertie key) (noRank key) (noYears key) (leb kw 100_000_000) t .1)) (λ _.
-    pick-cases P (within 4 5 (kindOf key)) _ _ (λ _ t. repeated (ofHolder H key) (noRank key) (forYears key) t) (λ _.
-    pick-cases P (eqb (kindOf key) 6) _ _ (λ _ t. repeated (ofHolder H key) (ranked key) (forYears key) t) (λ _ t.
+    pick-by P (eqb (kindOf key) 1) _ _ (λ _ t. let p = two-of-five (noHolder key) (onIntertie I key) (noRank key) (noYears key) (leb kw 20_000_000) t in on-intertie (p .0) (leb-true kw 20_000_000 (p .1))) (λ _.
+    pick-by P (eqb (kindOf key) 2) _ _ (λ _ t. repeated (noHolder key) (noRank key) (noYears key) t) (λ _.
+    pick-by P (eqb (kindOf key) 3) _ _ (λ k t. of-holder (eqb-true (kindOf key) 3 k) (two-of-five (ofHolder H key) (noIntertie key) (noRank key) (noYears key) (leb kw 100_000_000) t .1)) (λ _.
+    pick-by P (within 4 5 (kindOf key)) _ _ (λ _ t. repeated (ofHolder H key) (noRank key) (forYears key) t) (λ _.
+    pick-by P (eqb (kindOf key) 6) _ _ (λ _ t. repeated (ofHolder H key) (ranked key) (forYears key) t) (λ _ t.
     absurd (false≢true t))))))
   where
     of-holder : kindOf key ≡ 3 → leb kw 100_000_000 ≡ true → Kept I key kw

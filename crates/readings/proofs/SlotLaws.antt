@@ -7,9 +7,10 @@ use native.Mathlib.Omega.{arith}
 use borrow.Author.Tests.{eqb-true, ltb-false, le-ltb}
 use lib.Dec.{eqb, ltb}
 use Rattle.base.specs.Words.{at}
+use Rattle.base.proofs.ChoiceLaws.{pick-by}
 use Rattle.sheets.specs.Key.{kindOf, holderOf, intertieOf, rankOf}
 use Rattle.readings.specs.Tables.{slot, slotOf, add, limitSlot, outsideSlot, loadShareSlot, existingSlot, preRaSlot, newUseSlot, slots}
-use Rattle.sheets.proofs.BaseMore.{pick-cases, test-by, equal-two, equal-three}
+use Rattle.sheets.proofs.BaseMore.{test-by, equal-two, equal-three}
 
 -- each region of slots belongs to one kind
 record Slotted (k h i r j : ℕ) : Type 0 where
@@ -26,13 +27,13 @@ module _ (k h i r : ℕ) (bh : h < 64) (bi : i < 64) (br : r < 256) where
   unfolding slot
   slotted =
       let P : ℕ → Type 0 = Slotted k h i r in
-      pick-cases P (eqb k 1) _ _ (λ t. let e = eqb-true k 1 t in omega arith) (λ _.
-      pick-cases P (eqb k 2) _ _ (λ t. let e = eqb-true k 2 t in omega arith) (λ _.
-      pick-cases P (eqb k 3) _ _ (λ t. let e = eqb-true k 3 t in omega arith) (λ _.
-      pick-cases P (ltb 31 h) _ _ (λ _. omega arith) (λ f. let l = ltb-false 31 h f in
-      pick-cases P (eqb k 4) _ _ (λ t. let e = eqb-true k 4 t in omega arith) (λ _.
-      pick-cases P (eqb k 5) _ _ (λ t. let e = eqb-true k 5 t in omega arith) (λ _.
-      pick-cases P (eqb k 6) _ _ (λ t. let e = eqb-true k 6 t in omega arith) (λ _. omega arith)))))))
+      pick-by P (eqb k 1) _ _ (λ t. let e = eqb-true k 1 t in omega arith) (λ _.
+      pick-by P (eqb k 2) _ _ (λ t. let e = eqb-true k 2 t in omega arith) (λ _.
+      pick-by P (eqb k 3) _ _ (λ t. let e = eqb-true k 3 t in omega arith) (λ _.
+      pick-by P (ltb 31 h) _ _ (λ _. omega arith) (λ f. let l = ltb-false 31 h f in
+      pick-by P (eqb k 4) _ _ (λ t. let e = eqb-true k 4 t in omega arith) (λ _.
+      pick-by P (eqb k 5) _ _ (λ t. let e = eqb-true k 5 t in omega arith) (λ _.
+      pick-by P (eqb k 6) _ _ (λ t. let e = eqb-true k 6 t in omega arith) (λ _. omega arith)))))))
 
   -- which records have a slot
   pub limit-test : (i′ : ℕ) → i′ < 64 → eqb (slot k h i r) (limitSlot i′) ≡ (eqb k 1 && eqb i i′)

@@ -13,8 +13,8 @@ use Rattle.base.specs.Sums.{sumTo}
 use Rattle.base.specs.Words.{at, tab}
 use Rattle.base.proofs.SumLaws.{sumTo-bound}
 use Rattle.base.proofs.WordLaws.{length-tab, at-tab}
+use Rattle.base.proofs.ChoiceLaws.{pick-by}
 use Rattle.readings.specs.Tables.{add}
-use Rattle.sheets.proofs.BaseMore.{pick-cases}
 
 -- an empty table
 abbrev pub zeros : ℕ → List ℕ
@@ -36,7 +36,7 @@ module _ (slot amount : ℕ → ℕ) where
 
 pub at-add : (l : List ℕ) (i a j : ℕ) → j < length l → at (add l i a) j ≡ at l j + pick (eqb i j) a 0
 at-add l i a j h =
-    pick-cases (λ (x : ℕ). at (add l i a) j ≡ at l j + x) (eqb i j) a 0
+    pick-by (λ (x : ℕ). at (add l i a) j ≡ at l j + x) (eqb i j) a 0
     (λ t. let e : i ≡ j = eqb-true i j t in
     rw e (getD-set-same l j (at l j + a) 0 h))
     (λ f. let ne : j ≢ i = λ e. eqb-false i j f (sym e) in
@@ -61,7 +61,7 @@ tally-bound slot amount n b size j small h =
     let all : at (tally slot amount n (zeros size)) j ≡ at (zeros size) j + sumTo n (share slot amount j) = at-tally slot amount n (zeros size) j (omega arith) in
     let bound : sumTo n (share slot amount j) ≤ n * b =
     sumTo-bound n b (share slot amount j)
-    (λ k _. pick-cases (λ (x : ℕ). x ≤ b) (eqb (slot k) j) (amount k) 0 (λ _. small k) (λ _. zero-le)) in
+    (λ k _. pick-by (λ (x : ℕ). x ≤ b) (eqb (slot k) j) (amount k) 0 (λ _. small k) (λ _. zero-le)) in
     omega arith
 
 -- an empty table that all records were added to

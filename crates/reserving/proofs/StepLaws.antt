@@ -14,11 +14,10 @@ use Rattle.base.specs.Sums.{sumTo, allTo}
 use Rattle.base.specs.Words.{at, tab, fill}
 use Rattle.base.specs.Choice.{pick}
 use Rattle.base.proofs.ChoiceLaws.{pick-by, pick-true, pick-false, and-left, and-right, and-both, or-left, or-right}
-use Rattle.base.proofs.SumLaws.{sumTo-same, sumTo-bound, allTo-each, allTo-all}
+use Rattle.base.proofs.SumLaws.{sumTo-same, sumTo-bound, allTo-each, allTo-all, allTo-same}
 use Rattle.base.proofs.WordLaws.{at-tab, length-tab, tab-same, fill-front, fill-same}
 use Rattle.interties.specs.Pairs.{fillPairs}
 use Rattle.readings.specs.Tables.{limitSlot, outsideSlot, loadShareSlot}
-use Rattle.sheets.proofs.BaseMore.{allTo-same}
 use Rattle.steps.specs.Inputs.{Inputs}
 use Rattle.steps.specs.Tables.{ofTables}
 use Rattle.steps.specs.Step2.{available, availableTotal, allLoadShares, loadShareQuantity}

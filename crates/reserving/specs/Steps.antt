@@ -34,6 +34,7 @@ pub record RowsTaken (kw ties : List ℕ) (I H : ℕ) (preRa₀ newUse₀ left p
   pub granted : preRa ≡ fillPairs I H (preRaGranted (ofTables I H kw ties)) preRa₀
   pub kept : newUse ≡ fillPairs I H (newUseGranted (ofTables I H kw ties)) newUse₀
 
+-- the same as tables are handed on whole: of a row of 48 words the first I are used
 pub record TablesGiven (kw ties : List ℕ) (I H : ℕ) (left preRa newUse : List ℕ) : Type 0 where
   pub few : I ≤ 48
   pub small : H ≤ 32
@@ -45,6 +46,7 @@ pub record TablesGiven (kw ties : List ℕ) (I H : ℕ) (left preRa newUse : Lis
   pub limits : (i : ℕ) → i < I → at kw (limitSlot i) ≤ 20000000
   pub load-shares : (h : ℕ) → h < H → at kw (loadShareSlot h) ≤ 100000000
 
+-- and what is left in them
 pub record TablesTaken (kw ties : List ℕ) (I H : ℕ) (left₀ preRa₀ newUse₀ left preRa newUse : List ℕ) (total : ℕ) : Type 0 where
   pub sum : total ≡ availableTotal (ofTables I H kw ties)
   pub remains : left ≡ fill I (unassigned (ofTables I H kw ties)) left₀

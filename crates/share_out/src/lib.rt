@@ -15,11 +15,12 @@ ghost use lib.Dec.{leb, ltb};
 
 const MOST_HOLDERS: usize = 32;
 
-const MOST_POOL_KW: u64 = 20_000_000;
+// The most of a pool, of a claim and of a weight.
+pub const MOST_POOL_KW: u64 = 20_000_000;
 
 const MOST_CLAIM_KW: u64 = 20_480_000_000;
 
-const MOST_WEIGHT: u64 = 100_000_000;
+pub const MOST_WEIGHT: u64 = 100_000_000;
 
 // The parts of a kW that a rate counts: 2 to the power 38.
 const PARTS: u64 = 274_877_906_944;

@@ -1,4 +1,5 @@
 -- Laws of choices, tests and sums that say nothing of the sheet.
+use Rattle.base.proofs.ChoiceLaws.{same-test}
 use Prim.Native.Nat.{ℕ, zero, suc, _+_, _*_, _<_, _≤_}
 use mathlib.Core.Path.{_≡_, refl, sym}
 use mathlib.Core.Bool.{Bool, true, false, _&&_, and-true, and-assoc, false≢true}
@@ -12,41 +13,13 @@ use Rattle.base.specs.Choice.{pick}
 use Rattle.base.specs.Sums.{sumTo, allTo}
 use Rattle.base.proofs.SumLaws.{sumTo-suc, sumTo-bound}
 
--- what holds of either side of a choice, where it is chosen, holds of the choice
-pub pick-cases : {A : Type 0} (P : A → Type 0) (b : Bool) (x y : A) → (b ≡ true → P x) → (b ≡ false → P y) → P (pick b x y)
-pick-cases P true x y f g = f refl
-pick-cases P false x y f g = g refl
-
--- tests that hold of each other are equal
-pub same-test : (a b : Bool) → (a ≡ true → b ≡ true) → (b ≡ true → a ≡ true) → a ≡ b
-same-test true b f g = sym (f refl)
-same-test false true f g = g refl
-same-test false false f g = refl
-
--- a further turn of a loop that tests all, or sums
-pub all-more : (n : ℕ) (p : ℕ → Bool) (b x : Bool) → b ≡ allTo n p → x ≡ p n → b && x ≡ allTo (n + 1) p
-unfolding allTo
-all-more n p b x e f = rw (add-one, e, f) refl
-
+-- a further turn of a loop that sums, and its end
 pub sum-more : (n : ℕ) (f : ℕ → ℕ) (x : ℕ) → x ≡ sumTo n f → x + f n ≡ sumTo (n + 1) f
 unfolding sumTo
 sum-more n f x e = rw (add-one, e) refl
 
--- the end of such a loop
-pub all-done : (n m : ℕ) (p : ℕ → Bool) (b : Bool) → b ≡ allTo n p → n ≤ m → m ≤ n → b ≡ allTo m p
-all-done n m p b e l g = let d : n ≡ m = omega arith in rw (← d) e
-
 pub sum-done : (n m : ℕ) (f : ℕ → ℕ) (x : ℕ) → x ≡ sumTo n f → n ≤ m → m ≤ n → x ≡ sumTo m f
 sum-done n m f x e l g = let d : n ≡ m = omega arith in rw (← d) e
-
--- the same tests hold together
-pub allTo-same : (n : ℕ) (p q : ℕ → Bool) → ((i : ℕ) → i < n → p i ≡ q i) → allTo n p ≡ allTo n q
-unfolding allTo
-allTo-same zero p q h = refl
-allTo-same (suc n) p q h =
-    let e : allTo n p ≡ allTo n q = allTo-same n p q (λ i l. h i (le-step l)) in
-    let t : p n ≡ q n = h n (lt-suc-self n) in
-    cc
 
 allTo-add : (m n : ℕ) (p : ℕ → Bool) → allTo (m + n) p ≡ allTo m p && allTo n (λ k. p (m + k))
 unfolding allTo

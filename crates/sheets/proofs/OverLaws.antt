@@ -6,8 +6,8 @@ use mathlib.Core.List.{List}
 use native.Mathlib.Nat.{le-trans, le-of-eq, mul-one}
 use Rattle.base.specs.Choice.{pick}
 use Rattle.base.proofs.SumLaws.{sumTo-bound, sumTo-le, sumTo-scale}
+use Rattle.base.proofs.ChoiceLaws.{pick-by}
 use Rattle.sheets.specs.Sheet.{count, keyAt, sumOver, howMany}
-use Rattle.sheets.proofs.BaseMore.{pick-cases}
 
 module _ (s : List ℕ) (test : ℕ → Bool) (amount : ℕ → ℕ) (b : ℕ) (each : (k : ℕ) → k < count s → test (keyAt s k) ≡ true → amount k ≤ b) where
   -- b for each record that passes
@@ -17,7 +17,7 @@ module _ (s : List ℕ) (test : ℕ → Bool) (amount : ℕ → ℕ) (b : ℕ) (
       le-trans
       (sumTo-le (count s) (λ k. pick (test (keyAt s k)) (amount k) 0) (λ k. b * pick (test (keyAt s k)) 1 0)
       (λ k l.
-      pick-cases (λ (x : ℕ). x ≤ b * pick (test (keyAt s k)) 1 0) (test (keyAt s k)) (amount k) 0
+      pick-by (λ (x : ℕ). x ≤ b * pick (test (keyAt s k)) 1 0) (test (keyAt s k)) (amount k) 0
       (λ t. rw (t, mul-one) (each k l t))
       (λ _. zero-le)))
       (le-of-eq (sumTo-scale (count s) b (λ k. pick (test (keyAt s k)) 1 0)))
@@ -27,4 +27,4 @@ module _ (s : List ℕ) (test : ℕ → Bool) (amount : ℕ → ℕ) (b : ℕ) (
   unfolding sumOver
   over-all =
       sumTo-bound (count s) b (λ k. pick (test (keyAt s k)) (amount k) 0)
-      (λ k l. pick-cases (λ (x : ℕ). x ≤ b) (test (keyAt s k)) (amount k) 0 (λ t. each k l t) (λ _. zero-le))
+      (λ k l. pick-by (λ (x : ℕ). x ≤ b) (test (keyAt s k)) (amount k) 0 (λ t. each k l t) (λ _. zero-le))

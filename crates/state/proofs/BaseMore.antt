@@ -1,4 +1,5 @@
 -- General laws of tests, `sumTo`, `allTo` and `fill`, most of them as the turns and ends of loops.
+use Rattle.base.proofs.ChoiceLaws.{and-right, same-test, and-left, and-both}
 use Prim.Native.Nat.{ℕ, zero, suc, _+_, _≤_, _<_, zero-le}
 use mathlib.Core.Path.{_≡_, refl, sym, ap, _∙_}
 use mathlib.Core.Bool.{Bool, true, false, _&&_}
@@ -14,58 +15,27 @@ use borrow.Author.Tests.{leb-true, le-leb, eqb-true, eq-eqb, ne-eqb}
 use Rattle.base.specs.Choice.{pick}
 use Rattle.base.specs.Sums.{sumTo, allTo}
 use Rattle.base.specs.Words.{at, fill}
-use Rattle.base.proofs.SumLaws.{below-suc, sumTo-same, sumTo-suc, sumTo-bound, allTo-each, allTo-all}
+use Rattle.base.proofs.SumLaws.{below-suc, sumTo-same, sumTo-suc, sumTo-bound, allTo-each, allTo-all, sumTo-more, allTo-same}
 use Rattle.base.proofs.WordLaws.{fill-suc, at-fill-past}
-
--- two tests that hold together are one
-pub same-test : (a b : Bool) → (a ≡ true → b ≡ true) → (b ≡ true → a ≡ true) → a ≡ b
-same-test true true f g = refl
-same-test true false f g = sym (f refl)
-same-test false true f g = g refl
-same-test false false f g = refl
-
-pub both-left : (a b : Bool) → a && b ≡ true → a ≡ true
-both-left true b e = refl
-both-left false b e = e
-
-pub both-right : (a b : Bool) → a && b ≡ true → b ≡ true
-both-right true b e = e
-both-right false true e = refl
-both-right false false e = e
-
-pub both : (a b : Bool) → a ≡ true → b ≡ true → a && b ≡ true
-both true b p q = q
-both false b p q = p
 
 -- four tests that hold
 pub four : (a b c d : Bool) → (a && b && c && d) ≡ true → (a ≡ true) × (b ≡ true) × (c ≡ true) × (d ≡ true)
 four a b c d e =
-    let three : (a && b && c) ≡ true = both-left (a && b && c) d e in
-    let two : (a && b) ≡ true = both-left (a && b) c three in
-    (both-left a b two, both-right a b two, both-right (a && b) c three, both-right (a && b && c) d e)
+    let three : (a && b && c) ≡ true = and-left (a && b && c) d e in
+    let two : (a && b) ≡ true = and-left (a && b) c three in
+    (and-left a b two, and-right a b two, and-right (a && b) c three, and-right (a && b && c) d e)
 
 pub all-four : (a b c d : Bool) → a ≡ true → b ≡ true → c ≡ true → d ≡ true → (a && b && c && d) ≡ true
-all-four a b c d p q r t = both (a && b && c) d (both (a && b) c (both a b p q) r) t
+all-four a b c d p q r t = and-both (a && b && c) d (and-both (a && b) c (and-both a b p q) r) t
 
 pub and-left-comm : (a b c : Bool) → (a && (b && c)) ≡ (b && (a && c))
 and-left-comm true b c = refl
 and-left-comm false true c = refl
 and-left-comm false false c = refl
 
--- one turn more, as a loop counts
-pub sumTo-next : (n : ℕ) (f : ℕ → ℕ) → sumTo (n + 1) f ≡ sumTo n f + f n
-sumTo-next n f = rw add-one (sumTo-suc n f)
-
 pub allTo-next : (n : ℕ) (p : ℕ → Bool) → allTo (n + 1) p ≡ (allTo n p && p n)
 unfolding allTo
 allTo-next n p = rw add-one refl
-
--- the same tests hold together
-pub allTo-same : (n : ℕ) (p q : ℕ → Bool) → ((i : ℕ) → i < n → p i ≡ q i) → allTo n p ≡ allTo n q
-allTo-same n p q h =
-    same-test (allTo n p) (allTo n q)
-    (λ (e : allTo n p ≡ true). allTo-all n q (λ i l. sym (h i l) ∙ allTo-each n p e i l))
-    (λ (e : allTo n q ≡ true). allTo-all n p (λ i l. h i l ∙ allTo-each n q e i l))
 
 -- 1 where a test fails, else 0
 abbrev pub fault : Bool → ℕ
@@ -102,7 +72,7 @@ faults-none (suc n) p = fault-next (sumTo n (λ i. fault (p i))) (allTo n p) (p 
 -- a loop that counts faults: a turn, its most, and the end
 pub faults-turn : (n : ℕ) (p : ℕ → Bool) {k f : ℕ} → k ≡ faultsTo n p → f ≡ fault (p n) → k + f ≡ faultsTo (n + 1) p
 unfolding faultsTo
-faults-turn n p {k} {f} e t = cc (sumTo-next n (λ i. fault (p i)))
+faults-turn n p {k} {f} e t = cc (sumTo-more n (λ i. fault (p i)))
 
 pub faults-turn-most : (n : ℕ) (p : ℕ → Bool) {k f : ℕ} → k ≡ faultsTo n p → f ≡ fault (p n) → k + f ≤ n + 1
 faults-turn-most n p e t = rw (faults-turn n p e t) (faults-most (n + 1) p)
@@ -123,7 +93,7 @@ tests-end n m p e l g =
 
 -- a loop that adds: a turn, and the end
 pub sum-turn : (n : ℕ) (f : ℕ → ℕ) {k x : ℕ} → k ≡ sumTo n f → x ≡ f n → k + x ≡ sumTo (n + 1) f
-sum-turn n f {k} {x} e t = cc (sumTo-next n f)
+sum-turn n f {k} {x} e t = cc (sumTo-more n f)
 
 pub sum-end : (n m : ℕ) (f : ℕ → ℕ) {k : ℕ} → k ≡ sumTo m f → m ≤ n → n ≤ m → k ≡ sumTo n f
 sum-end n m f e l g =
@@ -135,15 +105,15 @@ pub allTo-both : (n : ℕ) (p q : ℕ → Bool) → allTo n (λ i. p i && q i) �
 allTo-both n p q =
     same-test (allTo n (λ i. p i && q i)) (allTo n p && allTo n q)
     (λ (e : allTo n (λ i. p i && q i) ≡ true).
-    both (allTo n p) (allTo n q)
-    (allTo-all n p (λ i l. both-left (p i) (q i) (allTo-each n (λ j. p j && q j) e i l)))
-    (allTo-all n q (λ i l. both-right (p i) (q i) (allTo-each n (λ j. p j && q j) e i l))))
+    and-both (allTo n p) (allTo n q)
+    (allTo-all n p (λ i l. and-left (p i) (q i) (allTo-each n (λ j. p j && q j) e i l)))
+    (allTo-all n q (λ i l. and-right (p i) (q i) (allTo-each n (λ j. p j && q j) e i l))))
     (λ (e : (allTo n p && allTo n q) ≡ true).
     allTo-all n (λ i. p i && q i)
     (λ i l.
-    both (p i) (q i)
-    (allTo-each n p (both-left (allTo n p) (allTo n q) e) i l)
-    (allTo-each n q (both-right (allTo n p) (allTo n q) e) i l)))
+    and-both (p i) (q i)
+    (allTo-each n p (and-left (allTo n p) (allTo n q) e) i l)
+    (allTo-each n q (and-right (allTo n p) (allTo n q) e) i l)))
 
 -- the same of pairs
 pub allTo-pairs-both :
@@ -203,13 +173,13 @@ sumTo-change (suc n) f g k l same =
     omega (arith, sumTo-suc n f, sumTo-suc n g))
     (below-suc l)
 
--- the bits of two words together are 0 where both words are
+-- the bits of two words together are 0 where and-both words are
 pub or-none : (a b : ℕ) → eqb (bitOr a b) 0 ≡ (eqb a 0 && leb b 0)
 or-none a b =
     let sum = or-add-and a b in
     same-test (eqb (bitOr a b) 0) (eqb a 0 && leb b 0)
-    (λ (e : eqb (bitOr a b) 0 ≡ true). both (eqb a 0) (leb b 0)
+    (λ (e : eqb (bitOr a b) 0 ≡ true). and-both (eqb a 0) (leb b 0)
     (eq-eqb a 0 (omega (arith, sum, and-le-r a b, eqb-true (bitOr a b) 0 e)))
     (le-leb b 0 (omega (arith, sum, and-le-l a b, eqb-true (bitOr a b) 0 e))))
     (λ (e : eqb a 0 && leb b 0 ≡ true). eq-eqb (bitOr a b) 0
-    (omega (arith, sum, eqb-true a 0 (both-left (eqb a 0) (leb b 0) e), leb-true b 0 (both-right (eqb a 0) (leb b 0) e))))
+    (omega (arith, sum, eqb-true a 0 (and-left (eqb a 0) (leb b 0) e), leb-true b 0 (and-right (eqb a 0) (leb b 0) e))))

@@ -11,9 +11,10 @@ use borrow.Author.Tests.{le-leb, lt-ltb, eq-eqb, le-ltb, leb-true, ltb-false, eq
 use Rattle.base.specs.Choice.{pick}
 use Rattle.base.specs.Sums.{sumTo, allTo}
 use Rattle.base.proofs.SumLaws.{sumTo-term, sumTo-none}
+use Rattle.base.proofs.ChoiceLaws.{and-both, and-left, and-right}
 use Rattle.state.specs.Layout.{stateWords, interties, holders, limitOf, loadShareOf, step5ShareOf, step7TotalOf, reservedOf, stageOf, unassignedOf, unplacedOf, sellersOf, takingsOf, placedOf, takenOf, lockedOf, termOf, pendingOf, ofHolder}
 use Rattle.state.specs.Orderly.{orderly, sizesInRange, stageInRange, limitsInRange, loadSharesInRange, balanced, lockedWithinPlaced, pendingWithinUnplaced, kwInRange, takingsInRange, sellersAreHolders, termsFit, termFits, intertieKw, noRequests, stateRefusal}
-use Rattle.state.proofs.BaseMore.{both, both-left, both-right, four, all-four, each-le, all-le, each-eq, all-eq, each-pair, all-pairs}
+use Rattle.state.proofs.BaseMore.{four, all-four, each-le, all-le, each-eq, all-eq, each-pair, all-pairs}
 
 pub record Orderly (s : List ℕ) : Type 0 where
   -- sizes and stage in range
@@ -51,7 +52,7 @@ term-fits : (locked term : ℕ) → termFits locked term ≡ true → (0 < locke
 term-fits zero term e = (λ l. omega arith, λ z. eqb-true term 0 e)
 term-fits (suc k) term e =
     let range : (leb 1 term && leb term 30) ≡ true = rw (lt-ltb 0 (suc k) (omega arith)) at e in (
-      λ l. (leb-true 1 term (both-left (leb 1 term) (leb term 30) range), leb-true term 30 (both-right (leb 1 term) (leb term 30) range)),
+      λ l. (leb-true 1 term (and-left (leb 1 term) (leb term 30) range), leb-true term 30 (and-right (leb 1 term) (leb term 30) range)),
       λ z. omega arith,
     )
 
@@ -59,7 +60,7 @@ fits-term : (locked term : ℕ) → (0 < locked → (1 ≤ term) × (term ≤ 30
 fits-term zero term range none = eq-eqb term 0 (none refl)
 fits-term (suc k) term range none =
     rw (lt-ltb 0 (suc k) (omega arith))
-    (both (leb 1 term) (leb term 30) (le-leb 1 term (range (omega arith) .0)) (le-leb term 30 (range (omega arith) .1)))
+    (and-both (leb 1 term) (leb term 30) (le-leb 1 term (range (omega arith) .0)) (le-leb term 30 (range (omega arith) .1)))
 
 terms-facts :
     (s : List ℕ) → termsFit s ≡ true → (h i : ℕ) → h < holders s → i < interties s
@@ -100,8 +101,8 @@ orderly-facts s e =
     let late = four _ (takingsInRange s) (sellersAreHolders s) (termsFit s) e in
     let middle = four _ (lockedWithinPlaced s) (pendingWithinUnplaced s) (kwInRange s) (late .0) in
     let early = four _ (limitsInRange s) (loadSharesInRange s) (balanced s) (middle .0) in
-    let sizes = four (leb 1 n) (leb n 48) (leb 1 m) (leb m 32) (both-left (sizesInRange s) (stageInRange s) (early .0)) in
-    let stage = both-right (sizesInRange s) (stageInRange s) (early .0) in
+    let sizes = four (leb 1 n) (leb n 48) (leb 1 m) (leb m 32) (and-left (sizesInRange s) (stageInRange s) (early .0)) in
+    let stage = and-right (sizesInRange s) (stageInRange s) (early .0) in
     let within = allTo m (λ h. leb (ofHolder pendingOf s h) (unplacedOf s h)) in
     let none = allTo m (λ h. eqb (ofHolder pendingOf s h) 0) in
     let kw = four (leb (sumTo m (λ h. unplacedOf s h)) 960000000)
@@ -114,8 +115,8 @@ orderly-facts s e =
       interties-most = leb-true n 48 (sizes .1);
       holders-least = leb-true 1 m (sizes .2);
       holders-most = leb-true m 32 (sizes .3);
-      stage-least = leb-true 1 (stageOf s) (both-left (leb 1 (stageOf s)) (leb (stageOf s) 4) stage);
-      stage-most = leb-true (stageOf s) 4 (both-right (leb 1 (stageOf s)) (leb (stageOf s) 4) stage);
+      stage-least = leb-true 1 (stageOf s) (and-left (leb 1 (stageOf s)) (leb (stageOf s) 4) stage);
+      stage-most = leb-true (stageOf s) 4 (and-right (leb 1 (stageOf s)) (leb (stageOf s) 4) stage);
       limit-most = each-le n (λ i. limitOf s i) (λ i. 20000000) (early .1);
       load-share-most = each-le m (λ h. loadShareOf s h) (λ h. 100000000) (early .2);
       balance = each-eq n (λ i. limitOf s i) (λ i. intertieKw s i) (early .3);
@@ -125,11 +126,11 @@ orderly-facts s e =
           (each-pair m n (λ h i. leb (lockedOf s h i) (placedOf s h i)) (middle .1) h i k l);
       pending-most =
           each-le m (λ h. ofHolder pendingOf s h) (λ h. unplacedOf s h)
-          (both-left within (pick (noRequests s) none true) (middle .2));
+          (and-left within (pick (noRequests s) none true) (middle .2));
       no-pending =
           λ c.
           each-eq m (λ h. ofHolder pendingOf s h) (λ h. 0)
-          (where-holds (noRequests s) none (both-right within (pick (noRequests s) none true) (middle .2)) (closed-test (stageOf s) c));
+          (where-holds (noRequests s) none (and-right within (pick (noRequests s) none true) (middle .2)) (closed-test (stageOf s) c));
       unplaced-sum-most = leb-true (sumTo m (λ h. unplacedOf s h)) 960000000 (kw .0);
       step5-share-most = each-le m (λ h. step5ShareOf s h) (λ h. 960000000) (kw .1);
       step7-total-most = each-le m (λ h. step7TotalOf s h) (λ h. 960000000) (kw .2);
@@ -152,7 +153,7 @@ facts-orderly {s} o =
     (le-leb 1 m (o .holders-least))
     (le-leb m 32 (o .holders-most)) in
     let stage : stageInRange s ≡ true =
-    both (leb 1 (stageOf s)) (leb (stageOf s) 4)
+    and-both (leb 1 (stageOf s)) (leb (stageOf s) 4)
     (le-leb 1 (stageOf s) (o .stage-least))
     (le-leb (stageOf s) 4 (o .stage-most)) in
     let limits : limitsInRange s ≡ true = all-le n (λ i. limitOf s i) (λ i. 20000000) (o .limit-most) in
@@ -163,7 +164,7 @@ facts-orderly {s} o =
     (λ h i k l. le-leb (lockedOf s h i) (placedOf s h i) (o .locked-most h i k l)) in
     let none = allTo m (λ h. eqb (ofHolder pendingOf s h) 0) in
     let pending : pendingWithinUnplaced s ≡ true =
-    both (allTo m (λ h. leb (ofHolder pendingOf s h) (unplacedOf s h))) (pick (noRequests s) none true)
+    and-both (allTo m (λ h. leb (ofHolder pendingOf s h) (unplacedOf s h))) (pick (noRequests s) none true)
     (all-le m (λ h. ofHolder pendingOf s h) (λ h. unplacedOf s h) (o .pending-most))
     (holds-where (noRequests s) none
     (λ c. all-eq m (λ h. ofHolder pendingOf s h) (λ h. 0) (o .no-pending (test-closed (stageOf s) c)))) in
@@ -186,7 +187,7 @@ facts-orderly {s} o =
     let b8 = b5 && lockedWithinPlaced s && pendingWithinUnplaced s && kwInRange s in
     all-four b8 (takingsInRange s) (sellersAreHolders s) (termsFit s)
     (all-four b5 (lockedWithinPlaced s) (pendingWithinUnplaced s) (kwInRange s)
-    (all-four b2 (limitsInRange s) (loadSharesInRange s) (balanced s) (both (sizesInRange s) (stageInRange s) sizes stage) limits shares balance)
+    (all-four b2 (limitsInRange s) (loadSharesInRange s) (balanced s) (and-both (sizesInRange s) (stageInRange s) sizes stage) limits shares balance)
     locked pending kw)
     takings sellers terms
 

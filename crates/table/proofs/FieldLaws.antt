@@ -14,7 +14,7 @@ use lib.Seq.{take-all, drop-drop, drop-cons, getD-drop, getD-set-same, getD-set-
 use borrow.Author.Tests.{eq-eqb, ne-eqb, lt-ltb, le-ltb, ltb-true, ltb-false}
 use Rattle.base.specs.Choice.{pick}
 use Rattle.base.specs.Words.{at}
-use Rattle.sheets.proofs.BaseMore.{same-test}
+use Rattle.base.proofs.ChoiceLaws.{same-test}
 use Rattle.text.specs.Pieces.{before, fields}
 use Rattle.text.proofs.PieceLaws.{before-le, fields-is}
 use Rattle.text.specs.Decimal.{numberOf}

@@ -27,12 +27,15 @@ pub record Sizes (state : List ℕ) (I H : ℕ) : Type 0 where
   pub few : I ≤ 48
   pub low : H ≤ 32
 
+-- the same as a test
 abbrev pub fitSizes : ℕ → ℕ → ℕ → Bool
 fitSizes words I H = leb stateWords words && leb I 48 && leb H 32
 
+-- I and H
 abbrev pub sizesWritten : ℕ → ℕ → List ℕ → List ℕ
 sizesWritten I H s = set (set s intertiesAt I) holdersAt H
 
+-- limits, outside rights, load shares, Step 5 shares, Step 7 totals, reserved
 abbrev pub figuresWritten : List ℕ → ℕ → ℕ → List ℕ → List ℕ → List ℕ → List ℕ → List ℕ
 figuresWritten kw I H shares totals held s =
     fillRow 6 H (rowWords held)
@@ -42,20 +45,25 @@ figuresWritten kw I H shares totals held s =
     (fillRow 2 I (λ i. low (at kw (outsideSlot i)))
     (fillRow 1 I (λ i. low (at kw (limitSlot i))) s)))))
 
+-- E
 abbrev pub existingWritten : List ℕ → ℕ → ℕ → List ℕ → List ℕ
 existingWritten kw I H s = fillPairs 7 H I (λ h i. low (at kw (existingSlot h i))) s
 
+-- E, P and N
 abbrev pub reservedWritten : List ℕ → ℕ → ℕ → List ℕ → List ℕ → List ℕ → List ℕ
 reservedWritten kw I H preRa newUse s =
     fillPairs 71 H I (pairWords newUse) (fillPairs 39 H I (pairWords preRa) (existingWritten kw I H s))
 
+-- stage 1, no last day, unassigned and unplaced
 abbrev pub stageWritten : ℕ → ℕ → List ℕ → List ℕ → List ℕ → List ℕ
 stageWritten I H unassigned unplaced s =
     fillRow 105 H (rowWords unplaced) (fillRow 104 I (rowWords unassigned) (set (set s stageAt 1) lastDayAt 0))
 
+-- no sellers, last week and takings
 abbrev pub rowsCleared : ℕ → List ℕ → List ℕ
 rowsCleared H s = fillRow 108 H (λ h. 0) (fillRow 107 H (λ h. 0) (fillRow 106 H (λ h. 0) s))
 
+-- nothing placed, taken, locked or pending, and no lock term
 abbrev pub pairsCleared : ℕ → ℕ → List ℕ → List ℕ
 pairsCleared I H s =
     fillPairs 237 H I (λ h i. 0)
@@ -65,6 +73,7 @@ pairsCleared I H s =
     (fillPairs 109 H I (λ h i. 0) s))))
 
 module _ (kw : List ℕ) (I H : ℕ) (shares totals held preRa newUse unassigned s : List ℕ) where
+  -- the whole opened state
   abbrev pub stateWritten : List ℕ
   stateWritten =
       pairsCleared I H

@@ -4,8 +4,7 @@ use mathlib.Core.Path.{_≡_, refl, sym}
 use lib.Dec.{leb}
 use Rattle.base.specs.Sums.{allTo}
 use Rattle.base.specs.Words.{at}
-use Rattle.base.proofs.SumLaws.{allTo-zero}
-use Rattle.sheets.proofs.BaseMore.{all-more, all-done}
+use Rattle.base.proofs.SumLaws.{allTo-zero, all-more, all-done}
 use borrow.Author.Needs.{needs}
 use Rattle.reserving.proofs.all_within.Statement.{statement}
 use Rattle.reserving.proofs.all_within.Tie as tie

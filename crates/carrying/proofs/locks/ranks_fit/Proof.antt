@@ -8,8 +8,7 @@ use borrow.Author.Needs.{needs}
 use denote.Ref.{now}
 use Rattle.base.specs.Sums.{allTo}
 use Rattle.base.specs.Words.{at}
-use Rattle.base.proofs.SumLaws.{allTo-zero}
-use Rattle.sheets.proofs.BaseMore.{all-more, all-done}
+use Rattle.base.proofs.SumLaws.{allTo-zero, all-more, all-done}
 use Rattle.carrying.proofs.locks.ranks_fit.Statement.{statement}
 use Rattle.carrying.proofs.locks.ranks_fit.Tie as tie
 

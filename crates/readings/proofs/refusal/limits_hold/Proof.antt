@@ -3,9 +3,8 @@ use Prim.Native.Nat.{_≤_, _-_, zero-le}
 use mathlib.Core.Path.{_≡_, sym}
 use borrow.Author.Needs.{needs}
 use Rattle.base.specs.Sums.{allTo}
-use Rattle.base.proofs.SumLaws.{allTo-zero}
+use Rattle.base.proofs.SumLaws.{allTo-zero, all-more, all-done}
 use Rattle.readings.specs.Deciding.{tableLimitHolds}
-use Rattle.sheets.proofs.BaseMore.{all-more, all-done}
 use Rattle.readings.proofs.refusal.limits_hold.Statement.{statement}
 use Rattle.readings.proofs.refusal.limits_hold.Tie as tie
 
