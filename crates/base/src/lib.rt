@@ -1,5 +1,7 @@
 // What every crate stands on: the answer of a call, and choices, sums and lists for the
 // specifications.
+pub mod encoding;
+
 ghost use mathlib.Core.Path.{_≡_};
 ghost use Rattle.base.specs.Answers.{refused, granted};
 

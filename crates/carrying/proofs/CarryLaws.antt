@@ -14,9 +14,9 @@ use Rattle.base.specs.Words.{at, fill}
 use Rattle.base.specs.Answers.{refused, granted}
 use Rattle.base.specs.declared.Answer.{Answer}
 use Rattle.base.proofs.ChoiceLaws.{or-left, or-right}
-use Rattle.sheets.specs.Sheet as Sheet
-use Rattle.sheets.specs.Refusal.{badLength, sheetRefusal}
-use Rattle.readings.proofs.SheetLaws.{standing, first-words}
+use Rattle.sheet_records.specs.Sheet as Sheet
+use Rattle.sheet_records.specs.Refusal.{badLength, sheetRefusal}
+use Rattle.sheet_reading.proofs.SheetLaws.{standing, first-words}
 use Rattle.state.specs.Layout as Layout
 use Rattle.state.specs.Orderly.{stateRefusal}
 use Rattle.state.proofs.OrderlyLaws.{Orderly, refusal-none}

@@ -15,8 +15,8 @@ use Rattle.base.specs.Choice.{pick}
 use Rattle.base.specs.Words.{at}
 use Rattle.base.proofs.ChoiceLaws.{pick-true, pick-false}
 use Rattle.base.proofs.SumLaws.{below-suc}
-use Rattle.sheets.specs.Key.{holderOf}
-use Rattle.sheets.specs.Sheet.{count, keyAt, kwAt}
+use Rattle.sheet_records.specs.Key.{holderOf}
+use Rattle.sheet_records.specs.Sheet.{count, keyAt, kwAt}
 use Rattle.state.specs.Layout.{lockedOf, termOf}
 use Rattle.carrying.specs.Line.{Line, lineIn}
 use Rattle.carrying.specs.Lines.{goesOn, nextLine, keptOf, kept, rankFor, highest, lockLine, withLock}

@@ -15,9 +15,9 @@ use Rattle.base.specs.Words.{at, fill}
 use Rattle.base.proofs.ChoiceLaws.{pick-by}
 use Rattle.base.proofs.SumLaws.{allTo-each, allTo-same}
 use Rattle.base.proofs.WordLaws.{fill-same}
-use Rattle.sheets.specs.Key.{yearsOf}
-use Rattle.sheets.specs.Sheet.{keyAt, kwAt}
-use Rattle.sheets.proofs.ReadingLaws.{word-below}
+use Rattle.sheet_records.specs.Key.{yearsOf}
+use Rattle.sheet_records.specs.Sheet.{keyAt, kwAt}
+use Rattle.sheet_records.proofs.ReadingLaws.{word-below}
 use Rattle.state.specs.Layout.{interties, holders, lockedOf}
 use Rattle.state.proofs.OrderlyLaws.{Orderly}
 use Rattle.carrying.specs.Line.{Line, keyOf, lineIn}

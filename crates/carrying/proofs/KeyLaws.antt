@@ -8,7 +8,7 @@ use native.Mathlib.Omega.{arith}
 use lib.Bits.{bitAnd, bitOr, and-mask, or-shifted-r}
 use lib.Pow.{pow-add}
 use borrow.Author.Tests.{eq-eqb, ne-eqb}
-use Rattle.sheets.specs.Key.{kindOf, holderOf, intertieOf, rankOf, yearsOf}
+use Rattle.sheet_records.specs.Key.{kindOf, holderOf, intertieOf, rankOf, yearsOf}
 use Rattle.carrying.specs.Line.{keyFrom, keyOf}
 use Rattle.carrying.specs.Lines.{yearless, nextYears, nextLine, rankFor}
 use Rattle.carrying.specs.NewSheet.{byteOf}

@@ -14,8 +14,8 @@ use borrow.Author.Tests.{ne-eqb}
 use Rattle.base.specs.Choice.{pick}
 use Rattle.base.proofs.ChoiceLaws.{pick-by, and-false}
 use Rattle.base.proofs.SumLaws.{below-suc}
-use Rattle.sheets.specs.Key.{kindOf, holderOf, rankOf}
-use Rattle.sheets.specs.Sheet.{count, keyAt, kwAt}
+use Rattle.sheet_records.specs.Key.{kindOf, holderOf, rankOf}
+use Rattle.sheet_records.specs.Sheet.{count, keyAt, kwAt}
 use Rattle.state.specs.Layout.{interties, holders, lockedOf}
 use Rattle.carrying.specs.Line.{Line, lineIn}
 use Rattle.carrying.specs.Lines.{goesOn, nextLine, keptOf, kept, rankFor, highest, lockLine, withLock, withLocksOf, withLocks, nextLines}

@@ -9,7 +9,7 @@ use lib.ListN.{length}
 use Rattle.base.specs.Choice.{pick}
 use Rattle.base.specs.Sums.{sumTo}
 use Rattle.base.proofs.SumLaws.{sumTo-zero, sumTo-suc, sumTo-more, sumTo-same}
-use Rattle.sheets.specs.Sheet.{keyAt, kwAt}
+use Rattle.sheet_records.specs.Sheet.{keyAt, kwAt}
 use Rattle.state.specs.Layout.{interties, lockedOf}
 use Rattle.carrying.specs.Line.{Line, lineIn}
 use Rattle.carrying.specs.Lines.{goesOn, nextLine, kept, lockLine, withLocksOf, withLocks}

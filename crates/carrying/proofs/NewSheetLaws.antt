@@ -12,7 +12,7 @@ use Rattle.base.specs.Sums.{sumTo}
 use Rattle.base.specs.Words.{at}
 use Rattle.base.proofs.SumLaws.{sumTo-same}
 use Rattle.base.proofs.WordLaws.{length-tab, at-tab}
-use Rattle.sheets.specs.Sheet.{wordAt, interties, holders, count, keyAt, kwAt, sumOver}
+use Rattle.sheet_records.specs.Sheet.{wordAt, interties, holders, count, keyAt, kwAt, sumOver}
 use Rattle.carrying.specs.Line.{Line, keyOf, lineIn}
 use Rattle.carrying.specs.NewSheet.{sizeOf, newWord, byteOf, newByte, newSheet}
 use Rattle.carrying.proofs.LineSums.{sumIn}

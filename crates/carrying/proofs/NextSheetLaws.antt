@@ -13,12 +13,12 @@ use Rattle.base.specs.Words.{at, tab, fill}
 use Rattle.base.proofs.ChoiceLaws.{and-left, and-right, and-both, or-left, or-right}
 use Rattle.base.proofs.SumLaws.{sumTo-le, allTo-each, allTo-all}
 use Rattle.base.proofs.WordLaws.{length-tab, at-tab, fill-same, fill-front}
-use Rattle.sheets.specs.Key.{kindOf, holderOf, intertieOf, rankOf, yearsOf}
-use Rattle.sheets.specs.Sheet as Sheet
-use Rattle.sheets.specs.Sheet.{count, keyAt, kwAt, sumOver, howMany, isLimit, isLoadShare, isNewUse, limit, outside, existing, existingOn}
-use Rattle.sheets.specs.Refusal.{badLength, badSizes, recordStands, recordsStand, oneLimitEach, oneLoadShareEach, noRankTwice, rulesHold, limitsHold, sheetRefusal}
-use Rattle.readings.proofs.SheetLaws as SheetLaws
-use Rattle.readings.proofs.SheetLaws.{Stands, standing}
+use Rattle.sheet_records.specs.Key.{kindOf, holderOf, intertieOf, rankOf, yearsOf}
+use Rattle.sheet_records.specs.Sheet as Sheet
+use Rattle.sheet_records.specs.Sheet.{count, keyAt, kwAt, sumOver, howMany, isLimit, isLoadShare, isNewUse, limit, outside, existing, existingOn}
+use Rattle.sheet_records.specs.Refusal.{badLength, badSizes, recordStands, recordsStand, oneLimitEach, oneLoadShareEach, noRankTwice, rulesHold, limitsHold, sheetRefusal}
+use Rattle.sheet_reading.proofs.SheetLaws as SheetLaws
+use Rattle.sheet_reading.proofs.SheetLaws.{Stands, standing}
 use Rattle.state.specs.Layout.{interties, holders}
 use Rattle.state.proofs.OrderlyLaws.{Orderly}
 use Rattle.call.proofs.LadderLaws.{none-first, none-second, not-whenever}

@@ -9,8 +9,8 @@ use Rattle.base.specs.Sums.{allTo}
 use Rattle.base.specs.Words.{fill}
 use Rattle.base.specs.Answers.{refused, granted}
 use Rattle.base.specs.declared.Answer.{Answer}
-use Rattle.sheets.specs.Sheet as Sheet
-use Rattle.sheets.specs.Refusal.{sheetRefusal}
+use Rattle.sheet_records.specs.Sheet as Sheet
+use Rattle.sheet_records.specs.Refusal.{sheetRefusal}
 use Rattle.state.specs.Layout as Layout
 use Rattle.state.specs.Orderly.{stateRefusal}
 use Rattle.call.specs.Outcome.{orElse, whenever}

@@ -4,8 +4,8 @@ use mathlib.Core.Bool.{Bool, _&&_, _||_}
 use mathlib.Core.List.{List, [], _∷_, _++_}
 use lib.Dec.{leb, ltb, eqb}
 use Rattle.base.specs.Choice.{pick}
-use Rattle.sheets.specs.Key.{kindOf, holderOf, intertieOf, rankOf, yearsOf}
-use Rattle.sheets.specs.Sheet.{count, keyAt, kwAt}
+use Rattle.sheet_records.specs.Key.{kindOf, holderOf, intertieOf, rankOf, yearsOf}
+use Rattle.sheet_records.specs.Sheet.{count, keyAt, kwAt}
 use Rattle.state.specs.Layout.{interties, holders, lockedOf, termOf}
 use Rattle.carrying.specs.Line.{Line}
 

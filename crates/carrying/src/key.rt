@@ -3,7 +3,7 @@
 ghost use mathlib.Core.Path.{_≡_};
 ghost use Rattle.carrying.specs.Lines.{yearless, goesOn, nextYears, nextLine};
 ghost use Rattle.carrying.specs.Draft.{maskedKey, lineKey};
-use sheets::key;
+use sheet_records::key;
 
 // A key from its fields, each cut to its width.
 pub fn pack(kind: u32, holder: u32, intertie: u32, rank: u32, years: u32) -> u32

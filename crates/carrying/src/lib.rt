@@ -29,7 +29,7 @@ fn early_refusal(sheet: &[u8], state: &[u32]) -> u32
 {
     let of_stage = call::whenever(call::not_open(state), 7);
     let of_state = call::or_else(orderly::state_refusal(state), of_stage);
-    call::or_else(readings::refusal::sheet_refusal(sheet), of_state)
+    call::or_else(sheet_reading::refusal::sheet_refusal(sheet), of_state)
 }
 
 // Whether the sheet's sizes differ from the state's.
@@ -39,8 +39,8 @@ fn sizes_differ(sheet: &[u8], state: &[u32]) -> bool
 {
     let interties = state::word(state, layout::SIZES, layout::INTERTIES);
     let holders = state::word(state, layout::SIZES, layout::HOLDERS);
-    !((sheets::words::intertie_count(sheet) == interties)
-        & (sheets::words::holder_count(sheet) == holders))
+    !((sheet_records::words::intertie_count(sheet) == interties)
+        & (sheet_records::words::holder_count(sheet) == holders))
 }
 
 // Drafts the lines of next year's sheet, and gives their number.

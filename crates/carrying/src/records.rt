@@ -5,17 +5,17 @@ ghost use mathlib.Core.List.{List, _++_};
 ghost use Prim.Native.Nat.{ℕ, _+_, _<_, max};
 ghost use lib.ListN.{length};
 ghost use Rattle.base.specs.Choice.{pick};
-ghost use Rattle.sheets.specs.Sheet.{count};
-ghost use Rattle.sheets.specs.Refusal.{badLength};
-ghost use Rattle.sheets.specs.Key.{holderOf};
+ghost use Rattle.sheet_records.specs.Sheet.{count};
+ghost use Rattle.sheet_records.specs.Refusal.{badLength};
+ghost use Rattle.sheet_records.specs.Key.{holderOf};
 ghost use Rattle.carrying.specs.Line.{Line};
 ghost use Rattle.carrying.specs.Lines.{nextLine, keptOf, kept, rankFor};
 ghost use Rattle.carrying.specs.Draft.{places, Drafted};
 use crate::key;
-use sheets::cursor::Cursor;
-use sheets::cursor::Read;
-use sheets::reader;
-use sheets::words;
+use sheet_records::cursor::Cursor;
+use sheet_records::cursor::Read;
+use sheet_records::reader;
+use sheet_records::words;
 
 // The places of a draft: 1,024 old records and a lock for each of 32 · 48 pairs.
 pub(crate) const PLACES: usize = 2560;
@@ -27,10 +27,10 @@ pub(crate) const HOLDERS: usize = 64;
 fn raised(rank: u32, key: u32) -> u32
     ensures { λ r. ⌜ r ≡ max rank (rankFor (holderOf key) (nextLine key 0)) ⌝ }
 {
-    if sheets::key::kind(key) != 6 {
+    if sheet_records::key::kind(key) != 6 {
         return rank;
     }
-    let other = sheets::key::rank(key);
+    let other = sheet_records::key::rank(key);
     if other <= rank {
         return rank;
     }
@@ -76,7 +76,7 @@ fn keep_record(
     let on = key::goes_on(key);
     keys[place] = key::next_key(key);
     kws[place] = kw;
-    let holder = sheets::key::holder(key) as usize;
+    let holder = sheet_records::key::holder(key) as usize;
     ranks[holder] = rank_after(on, ranks[holder], key);
     place_after(on, place)
 }

@@ -8,9 +8,9 @@ use lib.Dec.{eqb}
 use Rattle.base.specs.Sums.{sumTo}
 use Rattle.base.proofs.ChoiceLaws.{pick-by}
 use Rattle.base.proofs.SumLaws.{sumTo-same, sumTo-le, sumTo-scale}
-use Rattle.interties.specs.Rule.{onIntertie, grantOn}
-use Rattle.interties.proofs.HolderLaws.{Ranged, Made}
-use Rattle.interties.proofs.IntertieLaws.{made-on}
+use Rattle.intertie_shares.specs.Rule.{onIntertie, grantOn}
+use Rattle.intertie_shares.proofs.HolderLaws.{Ranged, Made}
+use Rattle.intertie_shares.proofs.IntertieLaws.{made-on}
 use Rattle.state.specs.Layout.{interties, holders, loadShareOf, stageOf, unassignedOf, sellersOf, pendingOf}
 use Rattle.state.proofs.OrderlyLaws.{Orderly, unassigned-most, unplaced-most, pair-pending-most}
 use Rattle.closing.specs.Weight.{sellerBit, sellersCount, sellersLoad, averageLoad, weightOf}

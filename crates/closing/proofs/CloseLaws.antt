@@ -19,8 +19,8 @@ use Rattle.state.specs.Layout.{stateWords, place, interties, holders, stageAt, 
 use Rattle.state.specs.Orderly.{stateRefusal}
 use Rattle.state.proofs.OrderlyLaws.{Orderly, refusal-none}
 use Rattle.state.proofs.FrameLaws.{SameRows, SameOpening, same-interties, same-holders, same-pair, at-stored, at-other-row, at-other-column}
-use Rattle.rows.specs.Rows.{fillRow, fillPairs}
-use Rattle.rows.proofs.RowLaws.{length-fillRow, at-fillRow, at-fillRow-apart, length-fillPairs, at-fillPairs, at-fillPairs-apart}
+use Rattle.state_rows.specs.Rows.{fillRow, fillPairs}
+use Rattle.state_rows.proofs.RowLaws.{length-fillRow, at-fillRow, at-fillRow-apart, length-fillPairs, at-fillPairs, at-fillPairs-apart}
 use Rattle.call.proofs.LadderLaws.{none-first, none-second, not-whenever, not-first}
 use Rattle.call.proofs.KeptLaws.{on-intertie-same, of-holder-same, orderly-after}
 use Rattle.closing.specs.Close.{closeRefusal, closeGrant, closeKw, closePasses, grantedTo, grantedOn, closeState, closeGrants, close}

@@ -16,12 +16,12 @@ use Rattle.base.specs.declared.Answer.{Answer}
 use Rattle.base.proofs.ChoiceLaws.{and-right}
 use Rattle.base.proofs.SumLaws.{sumTo-same}
 use Rattle.base.proofs.WordLaws.{fill-same, at-fill, length-fill}
-use Rattle.interties.specs.Pairs.{atPair}
+use Rattle.intertie_shares.specs.Pairs.{atPair}
 use Rattle.state.specs.Layout.{place, interties, holders, stageAt, stageOf, unassignedOf, unplacedOf, placedOf}
 use Rattle.state.specs.Orderly.{stateRefusal}
 use Rattle.state.proofs.OrderlyLaws.{Orderly, unassigned-most, unplaced-most, placed-most}
-use Rattle.rows.specs.Rows.{fillRow, fillPairs, fitRow, fitField, fitPairs}
-use Rattle.rows.proofs.RowLaws.{length-fillRow, at-fillRow-apart, length-fillPairs}
+use Rattle.state_rows.specs.Rows.{fillRow, fillPairs, fitRow, fitField, fitPairs}
+use Rattle.state_rows.proofs.RowLaws.{length-fillRow, at-fillRow-apart, length-fillPairs}
 use Rattle.call.specs.Outcome.{orElse, whenever}
 use Rattle.call.proofs.LadderLaws.{none-first, none-second, not-whenever, not-first}
 use Rattle.closing.specs.Close.{closeRefusal, closeGrant, closeKw, closePasses, grantedTo, grantedOn, closeState, closeGrants, Closed, close}

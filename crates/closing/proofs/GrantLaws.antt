@@ -7,8 +7,8 @@ use Rattle.base.specs.Choice.{pick}
 use Rattle.base.specs.Sums.{sumTo}
 use Rattle.base.proofs.ChoiceLaws.{pick-by, sumTo-pick}
 use Rattle.base.proofs.SumLaws.{sumTo-same, sumTo-le, sumTo-zeros}
-use Rattle.interties.specs.Pairs.{atPair}
-use Rattle.interties.specs.Rule.{onIntertie, grantOn}
+use Rattle.intertie_shares.specs.Pairs.{atPair}
+use Rattle.intertie_shares.specs.Rule.{onIntertie, grantOn}
 use Rattle.state.specs.Layout.{interties, holders, unassignedOf, unplacedOf, pendingOf}
 use Rattle.state.proofs.OrderlyLaws.{Orderly}
 use Rattle.closing.specs.Weight.{weightOf}

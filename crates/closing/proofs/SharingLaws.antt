@@ -10,12 +10,12 @@ use Rattle.base.specs.Answers.{granted}
 use Rattle.base.specs.declared.Answer.{Answer}
 use Rattle.base.proofs.WordLaws.{at-fill, length-fill}
 use Rattle.share_out.specs.Rule.{Outcome}
-use Rattle.interties.specs.Pairs.{atPair}
-use Rattle.interties.specs.Rule.{grantOn, overInterties, shareOutEach}
-use Rattle.interties.specs.Fit.{Sized}
-use Rattle.interties.proofs.PairLaws.{at-fillPairs}
-use Rattle.interties.proofs.OutcomeLaws.{each-done}
-use Rattle.interties.proofs.Promise.{Promise, promise, over-same}
+use Rattle.intertie_shares.specs.Pairs.{atPair}
+use Rattle.intertie_shares.specs.Rule.{grantOn, overInterties, shareOutEach}
+use Rattle.intertie_shares.specs.Fit.{Sized}
+use Rattle.intertie_shares.proofs.PairLaws.{at-fillPairs}
+use Rattle.intertie_shares.proofs.OutcomeLaws.{each-done}
+use Rattle.intertie_shares.proofs.Promise.{Promise, promise, over-same}
 use Rattle.state.specs.Layout.{place, interties, holders, stageOf, unassignedOf, pendingOf}
 use Rattle.state.proofs.OrderlyLaws.{Orderly}
 use Rattle.closing.specs.Weight.{weightOf}

@@ -8,11 +8,11 @@ use lib.ListN.{length}
 use Rattle.base.specs.Choice.{pick}
 use Rattle.base.specs.Words.{at}
 use Rattle.base.proofs.ChoiceLaws.{pick-true}
-use Rattle.interties.specs.Pairs.{atPair}
+use Rattle.intertie_shares.specs.Pairs.{atPair}
 use Rattle.state.specs.Layout.{place}
-use Rattle.rows.specs.Rows.{fillRow, fillPairs, fitRow, fitField, fitPairs}
-use Rattle.rows.proofs.RowLaws.{fillRow-same, fillPairs-same}
-use Rattle.rows.proofs.FitLaws.{row-fits, field-fits, pairs-fit}
+use Rattle.state_rows.specs.Rows.{fillRow, fillPairs, fitRow, fitField, fitPairs}
+use Rattle.state_rows.proofs.RowLaws.{fillRow-same, fillPairs-same}
+use Rattle.state_rows.proofs.FitLaws.{row-fits, field-fits, pairs-fit}
 
 pub stored-row : (s after values : List ℕ) (row n : ℕ) (f : ℕ → ℕ) →
     after ≡ pick (fitRow (length s) row n (length values)) (fillRow row n (λ c. at values c % 4294967296) s) s →

@@ -12,7 +12,7 @@ use Rattle.base.specs.Sums.{sumTo}
 use Rattle.base.specs.Words.{at, fill}
 use Rattle.base.proofs.SumLaws.{below-suc, sumTo-zero, sumTo-more, sumTo-mono}
 use Rattle.base.proofs.WordLaws.{fill-suc, at-fill, length-fill}
-use Rattle.interties.specs.Pairs.{atPair}
+use Rattle.intertie_shares.specs.Pairs.{atPair}
 use Rattle.closing.specs.Work.{fillFrom}
 
 -- a local array before it is written

@@ -10,9 +10,9 @@ use borrow.Author.Tests.{eqb-false}
 use Rattle.base.specs.Words.{at}
 use Rattle.base.proofs.ChoiceLaws.{pick-by, or-left, or-right}
 use Rattle.base.proofs.SumLaws.{sumTo-zeros}
-use Rattle.interties.specs.Rule.{onIntertie, grantOn, kwOver, passesOver}
-use Rattle.interties.proofs.HolderLaws.{Kept}
-use Rattle.interties.proofs.IntertieLaws.{kept-on, passes-most}
+use Rattle.intertie_shares.specs.Rule.{onIntertie, grantOn, kwOver, passesOver}
+use Rattle.intertie_shares.proofs.HolderLaws.{Kept}
+use Rattle.intertie_shares.proofs.IntertieLaws.{kept-on, passes-most}
 use Rattle.state.specs.Layout.{interties, holders, stageOf, unassignedOf, pendingOf}
 use Rattle.state.proofs.OrderlyLaws.{Orderly, no-pair-pending}
 use Rattle.closing.specs.Weight.{weightOf}

@@ -9,10 +9,10 @@ use Rattle.base.specs.Sums.{sumTo}
 use Rattle.base.specs.Words.{fill}
 use Rattle.base.specs.Answers.{refused, granted}
 use Rattle.base.specs.declared.Answer.{Answer}
-use Rattle.interties.specs.Rule.{grantOn, kwOver, passesOver}
+use Rattle.intertie_shares.specs.Rule.{grantOn, kwOver, passesOver}
 use Rattle.state.specs.Layout.{interties, holders, stageAt, stageOf, unassignedOf, unplacedOf, placedOf, pendingOf}
 use Rattle.state.specs.Orderly.{stateRefusal}
-use Rattle.rows.specs.Rows.{fillRow, fillPairs}
+use Rattle.state_rows.specs.Rows.{fillRow, fillPairs}
 use Rattle.call.specs.Outcome.{orElse, whenever}
 use Rattle.closing.specs.Weight.{weightOf}
 

@@ -4,7 +4,7 @@ use mathlib.Core.Path.{_≡_}
 use mathlib.Core.List.{List}
 use lib.ListN.{length, set}
 use Rattle.base.specs.Words.{at}
-use Rattle.interties.specs.Pairs.{atPair}
+use Rattle.intertie_shares.specs.Pairs.{atPair}
 use Rattle.state.specs.Layout.{interties, holders, stageOf, unassignedOf, unplacedOf}
 use Rattle.state.specs.Orderly.{stateRefusal}
 use Rattle.closing.specs.Close.{closeGrant, grantedTo, grantedOn}

@@ -8,7 +8,7 @@ ghost use Prim.Native.Nat.{ℕ, _-_, _≤_, _<_};
 ghost use lib.ListN.{length};
 ghost use Rattle.base.specs.Sums.{sumTo};
 ghost use Rattle.base.specs.Words.{at, fill};
-ghost use Rattle.interties.specs.Pairs.{atPair};
+ghost use Rattle.intertie_shares.specs.Pairs.{atPair};
 ghost use Rattle.state.specs.Layout.{interties, holders, unassignedOf, unplacedOf};
 ghost use Rattle.closing.specs.Close.{closeState};
 ghost use Rattle.closing.specs.Work.{Closable, Granted, Written};
@@ -50,10 +50,10 @@ fn write_state(state: &mut [u32], unassigned: &[u64], unplaced: &[u64], table: &
     let interties = tables::intertie_count(state);
     let holders = tables::holder_count(state);
     let stage = call::stage(state);
-    rows::store_row(state, layout::UNASSIGNED as usize, interties, unassigned);
-    rows::store_row(state, layout::UNPLACED as usize, holders, unplaced);
-    rows::raise_pairs(state, layout::PLACED as usize, holders, interties, table);
-    rows::clear_pairs(state, layout::PENDING as usize, holders, interties);
+    state_rows::store_row(state, layout::UNASSIGNED as usize, interties, unassigned);
+    state_rows::store_row(state, layout::UNPLACED as usize, holders, unplaced);
+    state_rows::raise_pairs(state, layout::PLACED as usize, holders, interties, table);
+    state_rows::clear_pairs(state, layout::PENDING as usize, holders, interties);
     state::store(state, layout::YEAR, layout::STAGE, stage + 1);
 }
 

@@ -5,7 +5,7 @@ ghost use mathlib.Core.Path.{_≡_};
 ghost use Prim.Native.Nat.{ℕ, _+_, _*_, _/_, _%_, _≤_, _<_};
 ghost use lib.ListN.{length};
 ghost use Rattle.base.specs.Words.{at, fill};
-ghost use Rattle.interties.specs.Pairs.{atPair};
+ghost use Rattle.intertie_shares.specs.Pairs.{atPair};
 ghost use Rattle.closing.specs.Close.{closeGrants};
 ghost use Rattle.closing.specs.Work.{fillFrom, Closable, Granted};
 

@@ -30,5 +30,5 @@ pub(super) fn share_out_pending(state: &[u32], table: &mut [u64]) -> Answer
     );
     let mut weights = [0u64; 32];
     weights::weigh(state, &mut weights);
-    interties::share_out_each(interties, holders, &pools, &claims, &weights, table)
+    intertie_shares::share_out_each(interties, holders, &pools, &claims, &weights, table)
 }

@@ -7,7 +7,7 @@ ghost use Prim.Native.Nat.{ℕ, _+_, _-_, _*_, _≤_, _<_};
 ghost use lib.ListN.{length};
 ghost use Rattle.base.specs.Sums.{sumTo};
 ghost use Rattle.base.specs.Words.{at, fill};
-ghost use Rattle.interties.specs.Pairs.{atPair};
+ghost use Rattle.intertie_shares.specs.Pairs.{atPair};
 ghost use Rattle.state.specs.Layout.{place, interties, holders};
 ghost use Rattle.closing.specs.Work.{fillFrom};
 

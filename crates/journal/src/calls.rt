@@ -1,5 +1,6 @@
 // A line read as a call.
 use crate::words::next_word;
+use base::encoding;
 use text::Number;
 ghost use mathlib.Core.Path.{_≡_};
 ghost use Prim.Native.Nat.{_≤_};

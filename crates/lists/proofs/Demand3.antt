@@ -10,7 +10,7 @@ use Rattle.base.specs.Choice.{pick}
 use Rattle.base.specs.Sums.{sumTo}
 use Rattle.base.specs.Words.{at}
 use Rattle.base.proofs.SumLaws.{sumTo-zeros}
-use Rattle.sheets.specs.Refusal.{sheetRefusal}
+use Rattle.sheet_records.specs.Refusal.{sheetRefusal}
 use Rattle.steps.specs.Inputs.{Inputs, ofSheet}
 use Rattle.steps.specs.Valid.{Valid}
 use Rattle.steps.specs.Step5to7.{held, reservedOn, step5Share, step7Total}

@@ -8,17 +8,17 @@ use Rattle.base.specs.Sums as BaseSums
 use Rattle.base.specs.Words as BaseWords
 use Rattle.share_out.specs.Pass as ShareOutPass
 use Rattle.share_out.specs.Rule as ShareOutRule
-use Rattle.sheets.specs.Refusal as SheetRefusal
-use Rattle.sheets.specs.Sheet as SheetSheet
-use Rattle.new_use.specs.NewUse as NewUseNewUse
-use Rattle.step5.specs.Round as Step5Round
-use Rattle.step5.specs.Shares as Step5Shares
+use Rattle.sheet_records.specs.Refusal as SheetRefusal
+use Rattle.sheet_records.specs.Sheet as SheetSheet
+use Rattle.step_4b.specs.NewUse as NewUseNewUse
+use Rattle.step_5.specs.Round as Step5Round
+use Rattle.step_5.specs.Shares as Step5Shares
 use Rattle.steps.specs.Step2 as StepsStep2
 use Rattle.steps.specs.Step4a as StepsStep4a
 use Rattle.steps.specs.Step4b as StepsStep4b
 use Rattle.steps.specs.Step5to7 as StepsStep5to7
 use Rattle.state.specs.Orderly as StateOrderly
-use Rattle.rows.specs.Rows as RowsRows
+use Rattle.state_rows.specs.Rows as RowsRows
 use Rattle.opening.specs.Open as OpeningOpen
 use Rattle.opening.specs.Opened as OpeningOpened
 use Rattle.trading.specs.Request as TradingRequest
@@ -28,7 +28,7 @@ use Rattle.holding.specs.Move as HoldingMove
 use Rattle.taking.specs.Take as TakingTake
 use Rattle.closing.specs.Close as ClosingClose
 use Rattle.closing.specs.Weight as ClosingWeight
-use Rattle.interties.specs.Rule as IntertiesRule
+use Rattle.intertie_shares.specs.Rule as IntertiesRule
 use Rattle.lists.specs.Calls.{Call, trade, request, close, take, move, lock, result, after}
 use Rattle.lists.specs.Encoded.{numbered, kwOf, closingsBefore, callAt, firstCalls, callsOf, accepted}
 use Rattle.lists.specs.Year.{boughtIn, soldIn, closedIn, takenIn, lockedIn, total}

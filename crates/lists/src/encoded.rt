@@ -1,7 +1,8 @@
 // Calls as 32-bit words: whether words are a list of calls, and what the words of one say.
+use base::encoding;
+use base::encoding::ANSWER_WORDS;
+use base::encoding::CALL_WORDS;
 use closing::GRANTS_WORDS;
-use encoding::ANSWER_WORDS;
-use encoding::CALL_WORDS;
 ghost use mathlib.Core.Path.{_≡_};
 ghost use Prim.Native.Nat.{ℕ, _+_, _*_, _≤_, min};
 ghost use lib.ListN.{length};

@@ -1,6 +1,7 @@
 // Calls run one after the other, each on the state as the call before it left it.
 use super::encoded;
 use base::Answer;
+use base::encoding;
 ghost use mathlib.Core.Path.{_≡_};
 ghost use mathlib.Core.Bool.{true};
 ghost use Prim.Native.Nat.{_+_, _*_, _≤_, _<_, min};

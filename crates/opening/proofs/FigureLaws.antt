@@ -9,13 +9,13 @@ use Rattle.base.specs.Sums.{sumTo}
 use Rattle.base.specs.Words.{at, tab}
 use Rattle.base.proofs.SumLaws.{sumTo-same, sumTo-term}
 use Rattle.base.proofs.WordLaws.{at-tab, length-tab}
-use Rattle.readings.specs.Tables.{loadShareSlot}
-use Rattle.step5.specs.Shares.{step5Shares}
-use Rattle.step5.specs.Outcome.{step5}
-use Rattle.step5.specs.Fit.{Accepted}
-use Rattle.step5.proofs.OutcomeLaws.{outcome-accepted, shares-whole}
-use Rattle.step5.proofs.Promise.{promise}
-use Rattle.reserving.proofs.ClaimLaws.{mid-tab}
+use Rattle.sheet_reading.specs.Tables.{loadShareSlot}
+use Rattle.step_5.specs.Shares.{step5Shares}
+use Rattle.step_5.specs.Outcome.{step5}
+use Rattle.step_5.specs.Fit.{Accepted}
+use Rattle.step_5.proofs.OutcomeLaws.{outcome-accepted, shares-whole}
+use Rattle.step_5.proofs.Promise.{promise}
+use Rattle.steps_2_to_4.proofs.ClaimLaws.{mid-tab}
 use Rattle.opening.specs.Figures.{KwTables, heldFrom, HeldGiven, HeldTaken}
 
 -- the tables of one holder more

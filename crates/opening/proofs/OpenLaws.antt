@@ -14,11 +14,11 @@ use Rattle.base.proofs.ChoiceLaws.{pick-true, and-both}
 use Rattle.base.proofs.SumLaws.{sumTo-same, sumTo-add}
 use Rattle.base.proofs.WordLaws.{at-tab, length-tab, tab-same, at-fill}
 use Rattle.state.specs.Layout.{stateWords}
-use Rattle.interties.specs.Pairs.{fillPairs}
-use Rattle.interties.proofs.PairLaws.{length-fillPairs, at-fillPairs}
-use Rattle.readings.specs.Tables.{existingSlot, loadShareSlot}
-use Rattle.step5.specs.Shares.{step5Shares}
-use Rattle.step5.proofs.Promise.{promise}
+use Rattle.intertie_shares.specs.Pairs.{fillPairs}
+use Rattle.intertie_shares.proofs.PairLaws.{length-fillPairs, at-fillPairs}
+use Rattle.sheet_reading.specs.Tables.{existingSlot, loadShareSlot}
+use Rattle.step_5.specs.Shares.{step5Shares}
+use Rattle.step_5.proofs.Promise.{promise}
 use Rattle.steps.specs.Inputs.{Inputs}
 use Rattle.steps.specs.Tables.{ofTables}
 use Rattle.steps.specs.Valid.{Valid}
@@ -27,10 +27,10 @@ use Rattle.steps.specs.Step4a.{preRaGranted}
 use Rattle.steps.specs.Step4b.{newUseGranted}
 use Rattle.steps.specs.Step5to7.{heldOn, held, step5Share, step7Total, unassigned}
 use Rattle.steps.proofs.BoundLaws.{total-most, held-total, held-on-most}
-use Rattle.reserving.specs.Vectors.{pairAt, Row, Pairs}
-use Rattle.reserving.specs.Reserved.{Outcome, reserved}
-use Rattle.reserving.proofs.StepLaws.{InRange, tables-fit, reserved-is}
-use Rattle.writing.specs.Write.{fitSizes, written}
+use Rattle.steps_2_to_4.specs.Vectors.{pairAt, Row, Pairs}
+use Rattle.steps_2_to_4.specs.Reserved.{Outcome, reserved}
+use Rattle.steps_2_to_4.proofs.StepLaws.{InRange, tables-fit, reserved-is}
+use Rattle.opened_state.specs.Write.{fitSizes, written}
 use Rattle.opening.specs.Figures.{KwTables, heldFrom, HeldGiven, HeldTaken}
 use Rattle.opening.specs.Opened.{openedState}
 use Rattle.opening.proofs.WriteLaws.{Given, opened-written}

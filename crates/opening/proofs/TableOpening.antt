@@ -14,11 +14,11 @@ use Rattle.base.specs.Answers.{refused, granted}
 use Rattle.base.proofs.ChoiceLaws.{pick-false}
 use Rattle.base.proofs.SumLaws.{sumTo-same}
 use Rattle.state.specs.Layout.{stateWords}
-use Rattle.sheets.specs.Sheet as Sheet
-use Rattle.sheets.specs.Refusal.{sheetRefusal}
-use Rattle.readings.specs.Tables.{kwTable, intertieTable, Filled, ReadSheet}
-use Rattle.readings.proofs.SheetLaws.{first-words, read-stands}
-use Rattle.readings.proofs.TableLaws.{limit-at, outside-at, load-share-at, existing-at, pre-ra-at, new-use-kw-at, new-use-intertie-at}
+use Rattle.sheet_records.specs.Sheet as Sheet
+use Rattle.sheet_records.specs.Refusal.{sheetRefusal}
+use Rattle.sheet_reading.specs.Tables.{kwTable, intertieTable, Filled, ReadSheet}
+use Rattle.sheet_reading.proofs.SheetLaws.{first-words, read-stands}
+use Rattle.sheet_reading.proofs.TableLaws.{limit-at, outside-at, load-share-at, existing-at, pre-ra-at, new-use-kw-at, new-use-intertie-at}
 use Rattle.steps.specs.Inputs.{Inputs, ofSheet}
 use Rattle.steps.specs.Tables.{ofTables}
 use Rattle.steps.specs.Valid.{Valid}

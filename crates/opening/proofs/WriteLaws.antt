@@ -7,8 +7,8 @@ use native.Mathlib.Omega.{arith}
 use lib.ListN.{length, set}
 use Rattle.base.specs.Words.{at}
 use Rattle.state.specs.Layout.{intertiesAt, holdersAt, stageAt, lastDayAt}
-use Rattle.rows.specs.Rows.{fillRow, fillPairs}
-use Rattle.rows.proofs.RowLaws.{fillRow-same, fillPairs-same}
+use Rattle.state_rows.specs.Rows.{fillRow, fillPairs}
+use Rattle.state_rows.proofs.RowLaws.{fillRow-same, fillPairs-same}
 use Rattle.steps.specs.Inputs.{Inputs}
 use Rattle.steps.specs.Tables.{ofTables}
 use Rattle.steps.specs.Valid.{Valid}
@@ -16,8 +16,8 @@ use Rattle.steps.specs.Step4a.{preRaGranted}
 use Rattle.steps.specs.Step4b.{newUseGranted}
 use Rattle.steps.specs.Step5to7.{heldOn, held, step5Share, step7Total, unassigned}
 use Rattle.steps.proofs.BoundLaws.{held-on-most, held-most, share-most, step7-total-most, unassigned-most, limit-parts}
-use Rattle.reserving.specs.Vectors.{Row, Pairs}
-use Rattle.writing.specs.Write.{low, sizesWritten, figuresWritten, reservedWritten, stageWritten, rowsCleared, pairsCleared, stateWritten}
+use Rattle.steps_2_to_4.specs.Vectors.{Row, Pairs}
+use Rattle.opened_state.specs.Write.{low, sizesWritten, figuresWritten, reservedWritten, stageWritten, rowsCleared, pairsCleared, stateWritten}
 use Rattle.opening.specs.Opened.{sizeWords, figureWords, reservedWords, stageWords, clearedWords, openedState}
 
 pub row-same : (row m n : ℕ) (f g : ℕ → ℕ) (s t : List ℕ) → m ≡ n → ((c : ℕ) → c < n → f c ≡ g c) → s ≡ t → fillRow row m f s ≡ fillRow row n g t

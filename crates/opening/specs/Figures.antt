@@ -5,9 +5,9 @@ use mathlib.Core.List.{List}
 use lib.ListN.{length}
 use Rattle.base.specs.Sums.{sumTo}
 use Rattle.base.specs.Words.{at, tab}
-use Rattle.readings.specs.Tables.{loadShareSlot, existingSlot}
-use Rattle.step5.specs.Shares.{step5Shares}
-use Rattle.reserving.specs.Vectors.{pairAt}
+use Rattle.sheet_reading.specs.Tables.{loadShareSlot, existingSlot}
+use Rattle.step_5.specs.Shares.{step5Shares}
+use Rattle.steps_2_to_4.specs.Vectors.{pairAt}
 
 -- what a holder holds, by the sheet's table of kW and the tables of P and N
 abbrev pub heldFrom : ℕ → List ℕ → List ℕ → List ℕ → ℕ → ℕ

@@ -3,7 +3,7 @@ use Prim.Native.Nat.{ℕ}
 use mathlib.Core.List.{List}
 use lib.ListN.{set}
 use Rattle.state.specs.Layout.{intertiesAt, holdersAt, stageAt, lastDayAt}
-use Rattle.rows.specs.Rows.{fillRow, fillPairs}
+use Rattle.state_rows.specs.Rows.{fillRow, fillPairs}
 use Rattle.steps.specs.Inputs.{Inputs}
 use Rattle.steps.specs.Step4a.{preRaGranted}
 use Rattle.steps.specs.Step4b.{newUseGranted}

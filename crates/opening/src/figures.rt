@@ -1,6 +1,6 @@
 // Steps 5 to 7: what each holder holds, its Step 5 share and its Step 7 total.
-use readings::tables::EXISTING;
-use readings::tables::LOAD_SHARES;
+use sheet_reading::tables::EXISTING;
+use sheet_reading::tables::LOAD_SHARES;
 ghost use mathlib.Core.Path.{_≡_};
 ghost use Prim.Native.Nat.{ℕ, _+_, _≤_, _<_};
 ghost use lib.ListN.{length};
@@ -74,6 +74,6 @@ pub(super) fn steps_5_to_7(
 {
     fill_held(kw, interties, pre_ra, new_use, held);
     let end = LOAD_SHARES + held.len();
-    step5::step5_shares(total, held, &kw[LOAD_SHARES..end], shares);
+    step_5::step5_shares(total, held, &kw[LOAD_SHARES..end], shares);
     fill_totals(held, shares, totals);
 }

@@ -3,9 +3,9 @@ mod figures;
 mod year;
 
 use base::Answer;
-use readings::refusal;
-use readings::tables::SLOTS;
-use sheets::words;
+use sheet_reading::refusal;
+use sheet_reading::tables::SLOTS;
+use sheet_records::words;
 use state::layout::STATE_WORDS;
 ghost use mathlib.Core.Path.{_≡_};
 ghost use Rattle.opening.specs.Open.{opened};

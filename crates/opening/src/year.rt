@@ -1,6 +1,6 @@
 // Steps 2 to 7 in order, from the tables of a sheet that stands to the year's state.
 use super::figures;
-use readings::tables::SLOTS;
+use sheet_reading::tables::SLOTS;
 ghost use mathlib.Core.Path.{_≡_};
 ghost use Prim.Native.Nat.{_≤_};
 ghost use lib.ListN.{length};
@@ -24,7 +24,7 @@ pub(super) fn carry_out(
     let mut unassigned = [0u64; 48];
     let mut pre_ra = [0u64; 1536];
     let mut new_use = [0u64; 1536];
-    let total = reserving::reserve(
+    let total = steps_2_to_4::reserve(
         kw,
         ties,
         interties,
@@ -46,7 +46,7 @@ pub(super) fn carry_out(
         &mut shares[..holders],
         &mut totals[..holders],
     );
-    writing::write_state(
+    opened_state::write_state(
         state,
         kw,
         interties,

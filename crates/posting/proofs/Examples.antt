@@ -11,20 +11,20 @@ use Rattle.base.proofs.WordLaws.{length-tab, at-tab, tab-at}
 use Rattle.state.specs.Layout.{place}
 use Rattle.share_out.specs.Pass.{isOpen, openWeights, byWeight, oneEach, unweighted, passKw, passTotal, passGrants}
 use Rattle.share_out.specs.Rule.{runPasses, shared, unfitNumbers, sharedAnswer, shareOut}
-use Rattle.interties.specs.Rule.{amongHolders}
-use Rattle.sheets.specs.declared.cursor.Record.{Record}
-use Rattle.sheets.specs.Sheet.{wordAt, sumOver, limit, outside, loadShare, existing, preRa, newUseKw, newUseIntertie}
-use Rattle.sheets.specs.Sheet as Sheet
-use Rattle.sheets.specs.Refusal.{badLength, badSizes, recordStands, recordsStand, oneLimitEach, oneLoadShareEach, noRankTwice, rulesHold, limitsHold, sheetRefusal}
-use Rattle.new_use.specs.NewUse.{nextRank, afterRanks, newUse}
-use Rattle.step5.specs.Shares.{step5Shares}
-use Rattle.step5.proofs.Examples as Step5
+use Rattle.intertie_shares.specs.Rule.{amongHolders}
+use Rattle.sheet_records.specs.declared.cursor.Record.{Record}
+use Rattle.sheet_records.specs.Sheet.{wordAt, sumOver, limit, outside, loadShare, existing, preRa, newUseKw, newUseIntertie}
+use Rattle.sheet_records.specs.Sheet as Sheet
+use Rattle.sheet_records.specs.Refusal.{badLength, badSizes, recordStands, recordsStand, oneLimitEach, oneLoadShareEach, noRankTwice, rulesHold, limitsHold, sheetRefusal}
+use Rattle.step_4b.specs.NewUse.{nextRank, afterRanks, newUse}
+use Rattle.step_5.specs.Shares.{step5Shares}
+use Rattle.step_5.proofs.Examples as Step5
 use Rattle.steps.specs.Inputs.{Inputs, ofSheet}
 use Rattle.steps.specs.Step2.{available, availableTotal, allLoadShares, loadShareQuantity}
 use Rattle.steps.specs.Step4a.{existingOn, leftByStep3, preRaClaim, preRaShared, preRaGranted, leftByStep4a}
 use Rattle.steps.specs.Step4b.{allowance, cover, newUseKept, newUseClaim, newUseShared, newUseGranted}
 use Rattle.steps.specs.Step5to7.{heldOn, held, reservedOn, step5Share, unassigned}
-use Rattle.rows.specs.Rows.{fillRow}
+use Rattle.state_rows.specs.Rows.{fillRow}
 use Rattle.opening.proofs.WriteLaws.{row-same}
 use Rattle.posting.specs.Post.{preRaOn, newUseOn, intertieLines, holderLines, Posted, posted}
 use Rattle.posting.proofs.PostLaws.{post-done}

@@ -14,8 +14,8 @@ use Rattle.base.specs.declared.Answer.{Answer}
 use Rattle.base.specs.Answers.{refused, granted}
 use Rattle.base.proofs.SumLaws.{sumTo-same}
 use Rattle.state.specs.Layout.{interties, holders}
-use Rattle.sheets.specs.Refusal.{sheetRefusal}
-use Rattle.rows.specs.Rows.{fillRow}
+use Rattle.sheet_records.specs.Refusal.{sheetRefusal}
+use Rattle.state_rows.specs.Rows.{fillRow}
 use Rattle.steps.specs.Inputs.{Inputs, ofSheet}
 use Rattle.steps.specs.Valid.{Valid}
 use Rattle.steps.specs.Step2.{availableTotal, allLoadShares, loadShareQuantity}

@@ -6,7 +6,7 @@ use lib.ListN.{length}
 use Rattle.base.specs.Sums.{sumTo}
 use Rattle.base.specs.Words.{at}
 use Rattle.state.specs.Layout.{place}
-use Rattle.rows.specs.Rows.{fillRow}
+use Rattle.state_rows.specs.Rows.{fillRow}
 
 pub record Readable (I H : ℕ) (state lines : List ℕ) : Type 0 where
   pub long : length state ≡ 16000

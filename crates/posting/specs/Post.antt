@@ -7,8 +7,8 @@ use Rattle.base.specs.Choice.{pick}
 use Rattle.base.specs.Sums.{sumTo}
 use Rattle.base.specs.Answers.{refused, granted}
 use Rattle.base.specs.declared.Answer.{Answer}
-use Rattle.sheets.specs.Refusal.{sheetRefusal}
-use Rattle.rows.specs.Rows.{fillRow}
+use Rattle.sheet_records.specs.Refusal.{sheetRefusal}
+use Rattle.state_rows.specs.Rows.{fillRow}
 use Rattle.steps.specs.Inputs.{Inputs, ofSheet}
 use Rattle.steps.specs.Step2.{availableTotal, loadShareQuantity}
 use Rattle.steps.specs.Step4a.{existingOn, preRaGranted}

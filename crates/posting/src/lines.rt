@@ -6,7 +6,7 @@ ghost use lib.ListN.{length};
 ghost use Rattle.base.specs.Sums.{sumTo};
 ghost use Rattle.base.specs.Words.{at};
 ghost use Rattle.state.specs.Layout.{place};
-ghost use Rattle.rows.specs.Rows.{fillRow};
+ghost use Rattle.state_rows.specs.Rows.{fillRow};
 ghost use Rattle.posting.specs.Fit.{Readable, rowWord, fieldOn, intertiesFrom, quantityFrom, holdersFrom};
 
 fn wide(word: u32) -> u64

@@ -13,7 +13,7 @@ use Rattle.base.specs.Words.{at}
 use Rattle.base.specs.declared.Answer.{Answer}
 use Rattle.base.proofs.SumLaws.{allTo-each, allTo-all}
 use Rattle.state.specs.Layout.{stateWords, place, interties, holders}
-use Rattle.sheets.specs.Refusal.{sheetRefusal}
+use Rattle.sheet_records.specs.Refusal.{sheetRefusal}
 use Rattle.steps.specs.Inputs.{Inputs, ofSheet}
 use Rattle.steps.proofs.SheetValid.{valid-sheet}
 use Rattle.opening.specs.Opened.{openedState}

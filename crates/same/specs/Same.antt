@@ -8,7 +8,7 @@ use Rattle.base.specs.Choice.{pick}
 use Rattle.base.specs.Sums.{allTo}
 use Rattle.base.specs.Words.{at}
 use Rattle.state.specs.Layout.{stateWords}
-use Rattle.sheets.specs.Refusal.{sheetRefusal}
+use Rattle.sheet_records.specs.Refusal.{sheetRefusal}
 use Rattle.steps.specs.Inputs.{ofSheet}
 use Rattle.opening.specs.Opened.{openedState}
 use Rattle.same.specs.declared.Verdict.{Verdict}

@@ -1,5 +1,167 @@
-// Program `sheet`: comma-separated text to a sheet's bytes, or back. Here it is run on the text of
-// case i.
+// Program `sheet`: comma-separated text on standard input becomes a sheet's bytes on standard
+// output; with a sheet's file name as its argument it prints the sheet's text.
+use libc::STDERR_FILENO;
+use libc::STDIN_FILENO;
+use libc::STDOUT_FILENO;
+use sheet_table::Converted;
+use sheet_table::SHEET_BYTES;
+use sheet_table::TABLE_BYTES;
+
+// Room for the longest text that is read, 131,072 bytes, and for one byte more, by which a longer one is told from it.
+const TEXT_ROOM: usize = 131_073;
+
+// The same for a sheet.
+const SHEET_ROOM: usize = 8_205;
+
 fn main() {
-    tabling::run();
+    let words = os::arg_count();
+    if words < 2 {
+        convert_input();
+        return;
+    }
+    if words == 2 {
+        print_argument();
+        return;
+    }
+    say(b"usage: sheet < TEXT > SHEET, or sheet SHEET\n");
+}
+
+fn say(text: &[u8]) {
+    io::write_all(STDERR_FILENO, text);
+}
+
+fn convert_input() {
+    let mut text = [0u8; TEXT_ROOM];
+    let read = input::read_whole(STDIN_FILENO, &mut text);
+    if !read.whole {
+        os::fail(b"standard input");
+        return;
+    }
+    let count = read.count;
+    if TEXT_ROOM <= count {
+        say(b"the text has over 131,072 bytes\n");
+        return;
+    }
+    write_sheet(&text[..count]);
+}
+
+fn write_sheet(text: &[u8]) {
+    let mut sheet = [0u8; SHEET_BYTES];
+    let converted = sheet_table::to_sheet(text, &mut sheet);
+    if converted.fault != 0 {
+        say_fault(converted);
+        return;
+    }
+    let count = converted.count;
+    write_out(&sheet[..count]);
+}
+
+fn write_out(bytes: &[u8]) {
+    if !io::write_all(STDOUT_FILENO, bytes) {
+        os::fail(b"standard output");
+    }
+}
+
+// As `line 3, column 2 (holder): not a number`.
+fn say_fault(converted: Converted) {
+    let line = converted.line;
+    let column = converted.column;
+    let fault = converted.fault;
+    say(b"line ");
+    io::print_decimal(STDERR_FILENO, line as u64);
+    say(b", column ");
+    io::print_decimal(STDERR_FILENO, column as u64);
+    if line == 1 {
+        say_size(column);
+        say_reason(fault, 2 < column);
+        return;
+    }
+    say_field(column);
+    if (fault == 1) & (column == 1) {
+        say(b": not a kind\n");
+        return;
+    }
+    say_reason(fault, 6 < column);
+}
+
+// A column of the first line.
+fn say_size(column: usize) {
+    if column == 1 {
+        say(b" (interties)");
+    }
+    if column == 2 {
+        say(b" (holders)");
+    }
+}
+
+// A column of a record.
+fn say_field(column: usize) {
+    match column {
+        1 => say(b" (kind)"),
+        2 => say(b" (holder)"),
+        3 => say(b" (intertie)"),
+        4 => say(b" (rank)"),
+        5 => say(b" (years)"),
+        6 => say(b" (kw)"),
+        _ => {}
+    }
+}
+
+// What a fault means; of number 3, whether a field is past the last column.
+fn say_reason(fault: u32, past: bool) {
+    if past {
+        say(b": too many fields\n");
+        return;
+    }
+    match fault {
+        1 => say(b": not a number\n"),
+        2 => say(b": too large\n"),
+        3 => say(b": missing\n"),
+        _ => say(b": over 1,024 records\n"),
+    }
+}
+
+fn print_argument() {
+    let mut name = io::buffer();
+    let length = os::arg(1, &mut name);
+    if os::errno() != 0 {
+        os::fail(b"file name");
+        return;
+    }
+    print_file(&name[..length]);
+}
+
+fn print_file(name: &[u8]) {
+    let file = os::open_read(name);
+    if file < 0 {
+        os::fail(name);
+        return;
+    }
+    let mut sheet = [0u8; SHEET_ROOM];
+    let read = input::read_whole(file, &mut sheet);
+    if !read.whole {
+        os::fail(name);
+    }
+    libc::close(file);
+    if !read.whole {
+        return;
+    }
+    let count = read.count;
+    if SHEET_ROOM <= count {
+        say(name);
+        say(b": longer than a sheet\n");
+        return;
+    }
+    print_sheet(name, &sheet[..count]);
+}
+
+fn print_sheet(name: &[u8], sheet: &[u8]) {
+    let mut text = [0u8; TABLE_BYTES];
+    let count = sheet_table::to_table(sheet, &mut text);
+    if count == 0 {
+        say(name);
+        say(b": not a sheet, refused with number 1\n");
+        return;
+    }
+    write_out(&text[..count]);
 }

@@ -6,8 +6,8 @@ use native.Mathlib.Omega.{arith}
 use Rattle.base.specs.Sums.{sumTo}
 use Rattle.base.specs.Words.{tab}
 use Rattle.base.proofs.SumLaws.{sumTo-term}
-use Rattle.interties.proofs.HolderLaws.{kept, Ranged, Made, made}
-use Rattle.new_use.proofs.Promise as NewUse
+use Rattle.intertie_shares.proofs.HolderLaws.{kept, Ranged, Made, made}
+use Rattle.step_4b.proofs.Promise as NewUse
 use Rattle.steps.specs.Inputs.{Inputs}
 use Rattle.steps.specs.Valid.{Valid}
 use Rattle.steps.specs.Step2.{availableTotal, allLoadShares, loadShareQuantity}

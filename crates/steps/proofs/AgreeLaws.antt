@@ -8,10 +8,10 @@ use Rattle.base.specs.Words.{at, tab}
 use Rattle.base.proofs.SumLaws.{sumTo-same}
 use Rattle.base.proofs.WordLaws.{tab-same}
 use Rattle.share_out.specs.Rule.{Outcome}
-use Rattle.interties.specs.Rule.{amongHolders}
-use Rattle.interties.proofs.HolderLaws.{among-same}
-use Rattle.step5.specs.Shares.{step5Shares}
-use Rattle.new_use.specs.NewUse.{NewUse, newUse}
+use Rattle.intertie_shares.specs.Rule.{amongHolders}
+use Rattle.intertie_shares.proofs.HolderLaws.{among-same}
+use Rattle.step_5.specs.Shares.{step5Shares}
+use Rattle.step_4b.specs.NewUse.{NewUse, newUse}
 use Rattle.steps.specs.Inputs.{Inputs}
 use Rattle.steps.specs.Step2.{available, availableTotal, allLoadShares, loadShareQuantity}
 use Rattle.steps.specs.Step4a.{existingOn, leftByStep3, preRaClaim, preRaShared, preRaGranted, leftByStep4a}

@@ -11,10 +11,10 @@ use Rattle.base.specs.declared.Answer.{Answer}
 use Rattle.base.proofs.SumLaws.{sumTo-same, sumTo-le, sumTo-add, sumTo-sub, sumTo-bound, sumTo-term}
 use Rattle.base.proofs.WordLaws.{at-tab, length-tab}
 use Rattle.share_out.specs.Rule.{Outcome}
-use Rattle.interties.specs.Rule.{amongHolders}
-use Rattle.interties.proofs.HolderLaws.{Kept, kept}
-use Rattle.step5.specs.Shares.{step5Shares}
-use Rattle.step5.proofs.Promise as Step5
+use Rattle.intertie_shares.specs.Rule.{amongHolders}
+use Rattle.intertie_shares.proofs.HolderLaws.{Kept, kept}
+use Rattle.step_5.specs.Shares.{step5Shares}
+use Rattle.step_5.proofs.Promise as Step5
 use Rattle.steps.specs.Inputs.{Inputs}
 use Rattle.steps.specs.Valid.{Valid}
 use Rattle.steps.specs.Step2.{available, availableTotal}

@@ -3,9 +3,9 @@ use Prim.Native.Nat.{ℕ, _<_, min}
 use mathlib.Core.Path.{_≡_}
 use mathlib.Core.List.{List}
 use Rattle.base.specs.Sums.{sumTo}
-use Rattle.sheets.specs.Sheet as Sheet
-use Rattle.sheets.specs.Refusal.{sheetRefusal}
-use Rattle.readings.proofs.SheetLaws.{Stands, standing}
+use Rattle.sheet_records.specs.Sheet as Sheet
+use Rattle.sheet_records.specs.Refusal.{sheetRefusal}
+use Rattle.sheet_reading.proofs.SheetLaws.{Stands, standing}
 use Rattle.steps.specs.Inputs.{ofSheet}
 use Rattle.steps.specs.Valid.{Valid}
 use Rattle.steps.specs.Step4a.{existingOn, leftByStep3, preRaClaim, preRaShared, preRaGranted, leftByStep4a}

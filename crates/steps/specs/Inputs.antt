@@ -1,7 +1,7 @@
 -- What Steps 1 to 7 read of a sheet: the sizes, and the kilowatts of its records, summed for each thing they speak of.
 use Prim.Native.Nat.{ℕ}
 use mathlib.Core.List.{List}
-use Rattle.sheets.specs.Sheet.{interties, holders, limit, outside, loadShare, existing, preRa, newUseKw, newUseIntertie}
+use Rattle.sheet_records.specs.Sheet.{interties, holders, limit, outside, loadShare, existing, preRa, newUseKw, newUseIntertie}
 
 pub record Inputs : Type 0 where
   -- I and H

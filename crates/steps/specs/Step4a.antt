@@ -3,7 +3,7 @@ use Prim.Native.Nat.{ℕ, _-_}
 use Rattle.base.specs.Sums.{sumTo}
 use Rattle.base.specs.Words.{at}
 use Rattle.share_out.specs.Rule.{Outcome}
-use Rattle.interties.specs.Rule.{amongHolders}
+use Rattle.intertie_shares.specs.Rule.{amongHolders}
 use Rattle.steps.specs.Inputs.{Inputs}
 use Rattle.steps.specs.Step2.{available}
 

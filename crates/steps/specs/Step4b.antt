@@ -4,8 +4,8 @@ use mathlib.Core.List.{List}
 use Rattle.base.specs.Sums.{sumTo}
 use Rattle.base.specs.Words.{at, tab}
 use Rattle.share_out.specs.Rule.{Outcome}
-use Rattle.interties.specs.Rule.{amongHolders}
-use Rattle.new_use.specs.NewUse.{NewUse, newUse}
+use Rattle.intertie_shares.specs.Rule.{amongHolders}
+use Rattle.step_4b.specs.NewUse.{NewUse, newUse}
 use Rattle.steps.specs.Inputs.{Inputs}
 use Rattle.steps.specs.Step2.{loadShareQuantity}
 use Rattle.steps.specs.Step4a.{preRaGranted, leftByStep4a}

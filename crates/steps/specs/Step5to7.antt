@@ -2,7 +2,7 @@
 use Prim.Native.Nat.{ℕ, _+_, _-_}
 use Rattle.base.specs.Sums.{sumTo}
 use Rattle.base.specs.Words.{at, tab}
-use Rattle.step5.specs.Shares.{step5Shares}
+use Rattle.step_5.specs.Shares.{step5Shares}
 use Rattle.steps.specs.Inputs.{Inputs}
 use Rattle.steps.specs.Step2.{available, availableTotal}
 use Rattle.steps.specs.Step4a.{preRaGranted}

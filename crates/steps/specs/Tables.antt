@@ -2,7 +2,7 @@
 use Prim.Native.Nat.{ℕ}
 use mathlib.Core.List.{List}
 use Rattle.base.specs.Words.{at}
-use Rattle.readings.specs.Tables.{limitSlot, outsideSlot, loadShareSlot, existingSlot, preRaSlot, newUseSlot}
+use Rattle.sheet_reading.specs.Tables.{limitSlot, outsideSlot, loadShareSlot, existingSlot, preRaSlot, newUseSlot}
 use Rattle.steps.specs.Inputs.{Inputs}
 
 abbrev pub ofTables : ℕ → ℕ → List ℕ → List ℕ → Inputs

@@ -4,7 +4,7 @@ use posting::NUMBERS;
 use same::Verdict;
 ghost use mathlib.Core.Path.{_≡_};
 ghost use Rattle.share_out.specs.Rule.{shareOut};
-ghost use Rattle.sheets.specs.Refusal.{sheetRefusal};
+ghost use Rattle.sheet_records.specs.Refusal.{sheetRefusal};
 ghost use Rattle.state.specs.Orderly.{stateRefusal};
 ghost use Rattle.opening.specs.Open.{opened};
 ghost use Rattle.posting.specs.Post.{posted};
@@ -36,7 +36,7 @@ pub extern "C" fn zankurbe_share_out(
 pub extern "C" fn zankurbe_sheet_refusal(sheet: &[u8]) -> u32
     ensures { λ r. ⌜ r ≡ sheetRefusal (now (sheet .entry)) ⌝ }
 {
-    readings::refusal::sheet_refusal(sheet)
+    sheet_reading::refusal::sheet_refusal(sheet)
 }
 
 // The refusal that every call of the year begins with: 5, 6, or 0.

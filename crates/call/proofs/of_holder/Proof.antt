@@ -23,28 +23,10 @@ Inv-loop state field holder interties sum₀ intertie₀ sum intertie =
 abbrev μ-loop : tie.MeasureT-loop
 μ-loop state field holder interties sum₀ intertie₀ sum intertie = interties - intertie
 
-word-requires : tie.Need-word-requires Inv-loop μ-loop
-word-requires c κs = search needs
-
 loop-holds : tie.Need-loop-holds Inv-loop μ-loop
 loop-holds c =
     let a = c .before .before .args in
     (search needs, sym (sumTo-zero (pairs (now (a .state)) (a .field) (a .holder))), search needs)
-
-pair-word-requires : tie.Need-pair-word-requires Inv-loop μ-loop
-pair-word-requires c κs = search needs
-
-cast-sum : tie.Need-cast-sum Inv-loop μ-loop
-cast-sum c = search needs
-
-add-sum : tie.Need-add-sum Inv-loop μ-loop
-add-sum c = search needs
-
-add-intertie : tie.Need-add-intertie Inv-loop μ-loop
-add-intertie c = search needs
-
-loop-less : tie.Need-loop-less Inv-loop μ-loop
-loop-less c = search needs
 
 loop-again : tie.Need-loop-again Inv-loop μ-loop
 loop-again c =
@@ -66,12 +48,12 @@ of-holder-spec =
     (tie.spec
     Inv-loop
     μ-loop
-    word-requires
+    (λ c κs. search needs)
     loop-holds
-    pair-word-requires
-    cast-sum
-    add-sum
-    add-intertie
-    loop-less
+    (λ c κs. search needs)
+    (λ c. search needs)
+    (λ c. search needs)
+    (λ c. search needs)
+    (λ c. search needs)
     loop-again
     returns)

@@ -6,25 +6,10 @@ use Rattle.carrying.proofs.CarryLaws.{state-stands, answers-refused, dr
 use Rattle.carrying.proofs.carry_on.Statement.{statement}
 use Rattle.carrying.proofs.carry_on.Tie as tie
 
-word-requires : tie.Need-word-requires
-word-requires c κs = search needs
-
-word-requires-2 : tie.Need-word-requires-2
-word-requires-2 c κs = search needs
-
-draft-requires : tie.Need-draft-requires
-draft-requires c κs = search needs
-
-cast-does-not-fit : tie.Need-cast-does-not-fit
-cast-does-not-fit c = search needs
-
 does-not-fit-requires : tie.Need-does-not-fit-requires
 does-not-fit-requires c κs =
     let o = state-stands _ _ (c .before .before .before .before .before .before .before .before .before .before .pre .0) in
     (omega (arith, o .holders-most, c .before .before .before .before .before .word2 .ensures), c .before .draft .ensures .0)
-
-refused-requires : tie.Need-refused-requires
-refused-requires c κs = search needs
 
 returns : tie.Need-returns
 returns c =
@@ -39,12 +24,6 @@ write-sheet-requires c κs =
       draft-room (now (a .sheet)) (now (a .state)) (now (a .output)) (c .before .before .before .before .before .before .before .before .before .before .before .before .before .before .before .pre .0) (c .before .before .before .before .before .before .before .before .before .before .before .before .before .before .before .pre .1) _ _ _ _ (c .before .before .before .before .before .before .draft .ensures .1) _ (c .before .before .before .before .before .before .before .before .before .before .word2 .ensures) _ (c .before .before .before .before .does-not-fit .ensures) (c .before .before .before .if1 .left),
     )
 
-granted-requires : tie.Need-granted-requires
-granted-requires c κs = search needs
-
-same-length : tie.Need-same-length
-same-length c = search needs
-
 returns-2 : tie.Need-returns-2
 returns-2 c =
     let a = c .before .before .before .before .before .before .before .before .before .before .before .before .before .before .before .before .before .before .before .args in
@@ -55,14 +34,14 @@ pub carry-on-spec : {M : Type 1} → statement M
 carry-on-spec =
     tie.close
     (tie.spec
-    word-requires
-    word-requires-2
-    draft-requires
-    cast-does-not-fit
+    (λ c κs. search needs)
+    (λ c κs. search needs)
+    (λ c κs. search needs)
+    (λ c. search needs)
     does-not-fit-requires
-    refused-requires
+    (λ c κs. search needs)
     returns
     write-sheet-requires
-    granted-requires
-    same-length
+    (λ c κs. search needs)
+    (λ c. search needs)
     returns-2)

@@ -4,22 +4,10 @@ use Rattle.carrying.proofs.CarryLaws.{sizes-read}
 use Rattle.carrying.proofs.sizes_differ.Statement.{statement}
 use Rattle.carrying.proofs.sizes_differ.Tie as tie
 
-word-requires : tie.Need-word-requires
-word-requires c κs = search needs
-
-word-requires-2 : tie.Need-word-requires-2
-word-requires-2 c κs = search needs
-
-intertie-count-requires : tie.Need-intertie-count-requires
-intertie-count-requires c κs = search needs
-
-holder-count-requires : tie.Need-holder-count-requires
-holder-count-requires c κs = search needs
-
 returns : tie.Need-returns
 returns c = sizes-read _ _ (c .before .before .before .before .before .before .pre) _ _ _ _ (c .before .intertie-count .ensures) (c .holder-count .ensures) (c .before .before .before .word .ensures) (c .before .before .word2 .ensures)
 
 pub sizes-differ-spec : {M : Type 1} → statement M
 sizes-differ-spec =
     tie.close
-    (tie.spec word-requires word-requires-2 intertie-count-requires holder-count-requires returns)
+    (tie.spec (λ c κs. search needs) (λ c κs. search needs) (λ c κs. search needs) (λ c κs. search needs) returns)

@@ -7,33 +7,15 @@ use borrow.Author.Needs.{needs}
 use Rattle.closing.proofs.close.Statement.{statement}
 use Rattle.closing.proofs.close.Tie as tie
 
-close-refusal-requires : tie.Need-close-refusal-requires
-close-refusal-requires c κs = search needs
-
-refused-requires : tie.Need-refused-requires
-refused-requires c κs = search needs
-
-same-length : tie.Need-same-length
-same-length c = search needs
-
-same-length-2 : tie.Need-same-length-2
-same-length-2 c = search needs
-
 returns : tie.Need-returns
 returns c =
     let a = c .before .before .before .before .before .before .before .args in
     answers-refused (now (a .state)) (now (a .grants)) _ _ (c .before .before .close-refusal .ensures) (c .before .if1 .taken) (c .refused .ensures)
 
-slice-aggregate-share-out-pending : tie.Need-slice-aggregate-share-out-pending
-slice-aggregate-share-out-pending c = search needs
-
 share-out-pending-requires : tie.Need-share-out-pending-requires
 share-out-pending-requires c κs =
     let a = c .before .before .before .before .before .before .before .before .args in
     (closable (now (a .state)) (now (a .grants)) (sym (c .before .before .before .close-refusal .ensures) ∙ c .before .before .if1 .left) .0, length-zeros 1536)
-
-slice-aggregate-write-grants : tie.Need-slice-aggregate-write-grants
-slice-aggregate-write-grants c = search needs
 
 write-grants-requires : tie.Need-write-grants-requires
 write-grants-requires c κs =
@@ -41,19 +23,10 @@ write-grants-requires c κs =
     let d = closable (now (a .state)) (now (a .grants)) (sym (c .before .before .before .before .before .before .before .before .close-refusal .ensures) ∙ c .before .before .before .before .before .before .before .if1 .left) in
     (d .0, c .before .before .before .before .share-out-pending .ensures .1, d .1)
 
-slice-aggregate-apply : tie.Need-slice-aggregate-apply
-slice-aggregate-apply c = search needs
-
 apply-requires : tie.Need-apply-requires
 apply-requires c κs =
     let a = c .before .before .before .before .before .before .before .before .before .before .before .before .before .before .before .before .before .before .args in
     (closable (now (a .state)) (now (a .grants)) (sym (c .before .before .before .before .before .before .before .before .before .before .before .before .before .close-refusal .ensures) ∙ c .before .before .before .before .before .before .before .before .before .before .before .before .if1 .left) .0, c .before .before .before .before .before .before .before .before .before .share-out-pending .ensures .1)
-
-same-length-3 : tie.Need-same-length-3
-same-length-3 c = search needs
-
-same-length-4 : tie.Need-same-length-4
-same-length-4 c = search needs
 
 returns-2 : tie.Need-returns-2
 returns-2 c =
@@ -65,17 +38,17 @@ pub close-spec : {M : Type 1} → statement M
 close-spec =
     tie.close
     (tie.spec
-    close-refusal-requires
-    refused-requires
-    same-length
-    same-length-2
+    (λ c κs. search needs)
+    (λ c κs. search needs)
+    (λ c. search needs)
+    (λ c. search needs)
     returns
-    slice-aggregate-share-out-pending
+    (λ c. search needs)
     share-out-pending-requires
-    slice-aggregate-write-grants
+    (λ c. search needs)
     write-grants-requires
-    slice-aggregate-apply
+    (λ c. search needs)
     apply-requires
-    same-length-3
-    same-length-4
+    (λ c. search needs)
+    (λ c. search needs)
     returns-2)

@@ -5,22 +5,13 @@ use borrow.Author.Needs.{needs}
 use Rattle.closing.proofs.close_refusal.Statement.{statement}
 use Rattle.closing.proofs.close_refusal.Tie as tie
 
-short-grants-requires : tie.Need-short-grants-requires
-short-grants-requires c κs = search needs
-
 returns : tie.Need-returns
 unfolding closeRefusal
 returns c = search turns depth 8
 
-state-refusal-requires : tie.Need-state-refusal-requires
-state-refusal-requires c κs = search needs
-
 returns-2 : tie.Need-returns-2
 unfolding closeRefusal
 returns-2 c = search turns depth 8
-
-no-closing-requires : tie.Need-no-closing-requires
-no-closing-requires c κs = search needs
 
 returns-3 : tie.Need-returns-3
 unfolding closeRefusal
@@ -34,10 +25,10 @@ pub close-refusal-spec : {M : Type 1} → statement M
 close-refusal-spec =
     tie.close
     (tie.spec
-    short-grants-requires
+    (λ c κs. search needs)
     returns
-    state-refusal-requires
+    (λ c κs. search needs)
     returns-2
-    no-closing-requires
+    (λ c κs. search needs)
     returns-3
     returns-4)

@@ -17,33 +17,12 @@ done : (c : tie.Else1) →
     LockDone (now (a .state)) (a .holder) (a .intertie) (a .kw) (a .term)
 done c = lock-done _ _ _ _ _ (sym (c .before .lock-refusal .ensures) ∙ c .if1 .left)
 
-lock-refusal-requires : tie.Need-lock-refusal-requires
-lock-refusal-requires c κs = search needs
-
-refused-requires : tie.Need-refused-requires
-refused-requires c κs = search needs
-
-same-length : tie.Need-same-length
-same-length c = search needs
-
 returns : tie.Need-returns
 unfolding lock
 returns c = answers-refused _ _ _ _ _ (c .before .before .lock-refusal .ensures) (c .before .if1 .taken) (c .refused .ensures)
 
 cast-store-pair : tie.Need-cast-store-pair
 cast-store-pair c = omega (arith, done (c .before) .kw-most)
-
-store-pair-requires : tie.Need-store-pair-requires
-store-pair-requires c κs = search needs
-
-store-pair-requires-2 : tie.Need-store-pair-requires-2
-store-pair-requires-2 c κs = search needs
-
-granted-requires : tie.Need-granted-requires
-granted-requires c κs = search needs
-
-same-length-2 : tie.Need-same-length-2
-same-length-2 c = search needs
 
 returns-2 : tie.Need-returns-2
 unfolding lock lockState
@@ -59,13 +38,13 @@ pub lock-spec : {M : Type 1} → statement M
 lock-spec =
     tie.close
     (tie.spec
-    lock-refusal-requires
-    refused-requires
-    same-length
+    (λ c κs. search needs)
+    (λ c κs. search needs)
+    (λ c. search needs)
     returns
     cast-store-pair
-    store-pair-requires
-    store-pair-requires-2
-    granted-requires
-    same-length-2
+    (λ c κs. search needs)
+    (λ c κs. search needs)
+    (λ c κs. search needs)
+    (λ c. search needs)
     returns-2)

@@ -11,36 +11,21 @@ use borrow.Author.Needs.{needs}
 use Rattle.holding.proofs.lock_refusal.Statement.{statement}
 use Rattle.holding.proofs.lock_refusal.Tie as tie
 
-state-refusal-requires : tie.Need-state-refusal-requires
-state-refusal-requires c κs = search needs
-
 returns : tie.Need-returns
 unfolding lockRefusal
 returns c = search turns depth 8
-
-not-open-requires : tie.Need-not-open-requires
-not-open-requires c κs = search needs
 
 returns-2 : tie.Need-returns-2
 unfolding lockRefusal
 returns-2 c = search turns depth 8
 
-no-pair-requires : tie.Need-no-pair-requires
-no-pair-requires c κs = search needs
-
 returns-3 : tie.Need-returns-3
 unfolding lockRefusal
 returns-3 c = search turns depth 8
 
-unfit-lock-requires : tie.Need-unfit-lock-requires
-unfit-lock-requires c κs = search needs
-
 returns-4 : tie.Need-returns-4
 unfolding lockRefusal
 returns-4 c = search turns depth 8
-
-over-placed-requires : tie.Need-over-placed-requires
-over-placed-requires c κs = search needs
 
 returns-5 : tie.Need-returns-5
 unfolding lockRefusal
@@ -67,15 +52,15 @@ pub lock-refusal-spec : {M : Type 1} → statement M
 lock-refusal-spec =
     tie.close
     (tie.spec
-    state-refusal-requires
+    (λ c κs. search needs)
     returns
-    not-open-requires
+    (λ c κs. search needs)
     returns-2
-    no-pair-requires
+    (λ c κs. search needs)
     returns-3
-    unfit-lock-requires
+    (λ c κs. search needs)
     returns-4
-    over-placed-requires
+    (λ c κs. search needs)
     returns-5
     barred-requires
     returns-6

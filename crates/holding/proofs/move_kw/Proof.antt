@@ -17,15 +17,6 @@ done : (c : tie.Else1) →
     MoveDone (now (a .state)) (a .giver) (a .taker) (a .intertie) (a .kw)
 done c = move-done _ _ _ _ _ (sym (c .before .move-refusal .ensures) ∙ c .if1 .left)
 
-move-refusal-requires : tie.Need-move-refusal-requires
-move-refusal-requires c κs = search needs
-
-refused-requires : tie.Need-refused-requires
-refused-requires c κs = search needs
-
-same-length : tie.Need-same-length
-same-length c = search needs
-
 returns : tie.Need-returns
 unfolding move
 returns c = answers-refused _ _ _ _ _ (c .before .before .move-refusal .ensures) (c .before .if1 .taken) (c .refused .ensures)
@@ -33,31 +24,13 @@ returns c = answers-refused _ _ _ _ _ (c .before .before .move-refusal .ensures)
 cast-moved : tie.Need-cast-moved
 cast-moved c = omega (arith, done c .kw-most)
 
-pair-word-requires : tie.Need-pair-word-requires
-pair-word-requires c κs = search needs
-
-pair-word-requires-2 : tie.Need-pair-word-requires-2
-pair-word-requires-2 c κs = search needs
-
 sub-store-pair : tie.Need-sub-store-pair
 sub-store-pair c = omega (arith, done (c .before .before .before .before .before) .enough, c .before .before .before .pair-word .ensures)
-
-store-pair-requires : tie.Need-store-pair-requires
-store-pair-requires c κs = search needs
 
 add-store-pair : tie.Need-add-store-pair
 add-store-pair c =
     let read = c .before .before .before .before .before in
     omega (arith, move-fits _ _ _ _ _ (done (read .before .before .before .before)), read .pair-word2 .ensures)
-
-store-pair-requires-2 : tie.Need-store-pair-requires-2
-store-pair-requires-2 c κs = search needs
-
-granted-requires : tie.Need-granted-requires
-granted-requires c κs = search needs
-
-same-length-2 : tie.Need-same-length-2
-same-length-2 c = search needs
 
 returns-2 : tie.Need-returns-2
 unfolding move moveState
@@ -75,17 +48,17 @@ pub move-kw-spec : {M : Type 1} → statement M
 move-kw-spec =
     tie.close
     (tie.spec
-    move-refusal-requires
-    refused-requires
-    same-length
+    (λ c κs. search needs)
+    (λ c κs. search needs)
+    (λ c. search needs)
     returns
     cast-moved
-    pair-word-requires
-    pair-word-requires-2
+    (λ c κs. search needs)
+    (λ c κs. search needs)
     sub-store-pair
-    store-pair-requires
+    (λ c κs. search needs)
     add-store-pair
-    store-pair-requires-2
-    granted-requires
-    same-length-2
+    (λ c κs. search needs)
+    (λ c κs. search needs)
+    (λ c. search needs)
     returns-2)

@@ -5,36 +5,21 @@ use borrow.Author.Needs.{needs}
 use Rattle.holding.proofs.move_refusal.Statement.{statement}
 use Rattle.holding.proofs.move_refusal.Tie as tie
 
-state-refusal-requires : tie.Need-state-refusal-requires
-state-refusal-requires c κs = search needs
-
 returns : tie.Need-returns
 unfolding moveRefusal
 returns c = search turns depth 8
-
-no-moves-requires : tie.Need-no-moves-requires
-no-moves-requires c κs = search needs
 
 returns-2 : tie.Need-returns-2
 unfolding moveRefusal
 returns-2 c = search turns depth 8
 
-unfit-parties-requires : tie.Need-unfit-parties-requires
-unfit-parties-requires c κs = search needs
-
 returns-3 : tie.Need-returns-3
 unfolding moveRefusal
 returns-3 c = search turns depth 8
 
-bad-kw-requires : tie.Need-bad-kw-requires
-bad-kw-requires c κs = search needs
-
 returns-4 : tie.Need-returns-4
 unfolding moveRefusal
 returns-4 c = search turns depth 8
-
-over-movable-requires : tie.Need-over-movable-requires
-over-movable-requires c κs = search needs
 
 returns-5 : tie.Need-returns-5
 unfolding moveRefusal
@@ -48,14 +33,14 @@ pub move-refusal-spec : {M : Type 1} → statement M
 move-refusal-spec =
     tie.close
     (tie.spec
-    state-refusal-requires
+    (λ c κs. search needs)
     returns
-    no-moves-requires
+    (λ c κs. search needs)
     returns-2
-    unfit-parties-requires
+    (λ c κs. search needs)
     returns-3
-    bad-kw-requires
+    (λ c κs. search needs)
     returns-4
-    over-movable-requires
+    (λ c κs. search needs)
     returns-5
     returns-6)

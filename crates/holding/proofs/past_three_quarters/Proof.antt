@@ -16,26 +16,8 @@ locked-fits c =
     let most = sumTo-bound (interties s) 4294967295 (λ i. lockedOf s h i) (λ i l. omega (arith, c .before .before .before .shared-slice-known .given (lockedAt h i))) in
     omega (arith, most, c .of-holder .ensures, start .pre .0)
 
-word-requires : tie.Need-word-requires
-word-requires c κs = search needs
-
-cast-total : tie.Need-cast-total
-cast-total c = search needs
-
-word-requires-2 : tie.Need-word-requires-2
-word-requires-2 c κs = search needs
-
-cast-reserved : tie.Need-cast-reserved
-cast-reserved c = search needs
-
-of-holder-requires : tie.Need-of-holder-requires
-of-holder-requires c κs = search needs
-
 add-locked : tie.Need-add-locked
 add-locked c = omega (arith, locked-fits c)
-
-mul-result : tie.Need-mul-result
-mul-result c = search needs
 
 add-result : tie.Need-add-result
 add-result c = omega (arith, locked-fits c)
@@ -50,13 +32,13 @@ pub past-three-quarters-spec : {M : Type 1} → statement M
 past-three-quarters-spec =
     tie.close
     (tie.spec
-    word-requires
-    cast-total
-    word-requires-2
-    cast-reserved
-    of-holder-requires
+    (λ c κs. search needs)
+    (λ c. search needs)
+    (λ c κs. search needs)
+    (λ c. search needs)
+    (λ c κs. search needs)
     add-locked
-    mul-result
+    (λ c. search needs)
     add-result
     mul-result-2
     returns)

@@ -7,21 +7,12 @@ use borrow.Author.Needs.{needs}
 use Rattle.opening.proofs.open.Statement.{statement}
 use Rattle.opening.proofs.open.Tie as tie
 
-read-sheet-requires : tie.Need-read-sheet-requires
-read-sheet-requires c κs = search needs
-
-refused-requires : tie.Need-refused-requires
-refused-requires c κs = search needs
-
 returns : tie.Need-returns
 returns c =
     let a = c .before .before .before .before .before .before .before .before .args in
     let number = c .before .before .read-sheet .ensures .answer in
     let o = open-refused (now (a .sheet)) (now (a .state)) (λ e. c .before .if1 .taken (number ∙ e)) in
     (c .refused .ensures ∙ cc, sym (ap (λ (o : Outcome). o .state) o))
-
-refused-requires-2 : tie.Need-refused-requires-2
-refused-requires-2 c κs = search needs
 
 returns-2 : tie.Need-returns-2
 returns-2 c =
@@ -30,26 +21,8 @@ returns-2 c =
     let o = open-short (now (a .sheet)) (now (a .state)) (sym number ∙ c .before .before .if1 .left) (c .before .if2 .taken) in
     (c .refused2 .ensures ∙ sym (ap (λ (o : Outcome). o .answer) o), sym (ap (λ (o : Outcome). o .state) o))
 
-intertie-count-requires : tie.Need-intertie-count-requires
-intertie-count-requires c κs = search needs
-
-cast-interties : tie.Need-cast-interties
-cast-interties c = search needs
-
-holder-count-requires : tie.Need-holder-count-requires
-holder-count-requires c κs = search needs
-
-cast-holders : tie.Need-cast-holders
-cast-holders c = search needs
-
 carry-out-requires : tie.Need-carry-out-requires
 carry-out-requires c κs = (read-valid _ _ _ _ _ _ _ _ (c .before .before .before .before .before .before .before .read-sheet .ensures) (c .before .before .before .before .before .before .if1 .left) _ _ (c .before .before .before .before .intertie-count .ensures) (c .before .before .before .holder-count .ensures), c .before .before .before .before .before .if2 .left)
-
-granted-requires : tie.Need-granted-requires
-granted-requires c κs = search needs
-
-same-length : tie.Need-same-length
-same-length c = search needs
 
 returns-3 : tie.Need-returns-3
 returns-3 c =
@@ -60,16 +33,16 @@ pub open-spec : {M : Type 1} → statement M
 open-spec =
     tie.close
     (tie.spec
-    read-sheet-requires
-    refused-requires
+    (λ c κs. search needs)
+    (λ c κs. search needs)
     returns
-    refused-requires-2
+    (λ c κs. search needs)
     returns-2
-    intertie-count-requires
-    cast-interties
-    holder-count-requires
-    cast-holders
+    (λ c κs. search needs)
+    (λ c. search needs)
+    (λ c κs. search needs)
+    (λ c. search needs)
     carry-out-requires
-    granted-requires
-    same-length
+    (λ c κs. search needs)
+    (λ c. search needs)
     returns-3)

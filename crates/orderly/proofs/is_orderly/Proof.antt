@@ -5,9 +5,6 @@ use Rattle.orderly.proofs.CheckLaws.{sized, orderly-is, not-orderly}
 use Rattle.orderly.proofs.is_orderly.Statement.{statement}
 use Rattle.orderly.proofs.is_orderly.Tie as tie
 
-sizes-in-range-requires : tie.Need-sizes-in-range-requires
-sizes-in-range-requires c κs = search needs
-
 rows-in-order-requires : tie.Need-rows-in-order-requires
 rows-in-order-requires c κs =
     let start = c .before .before .before in
@@ -27,4 +24,4 @@ returns-2 c =
 pub is-orderly-spec : {M : Type 1} → statement M
 is-orderly-spec =
     tie.close
-    (tie.spec sizes-in-range-requires rows-in-order-requires returns returns-2)
+    (tie.spec (λ c κs. search needs) rows-in-order-requires returns returns-2)

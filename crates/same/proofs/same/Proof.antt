@@ -7,46 +7,16 @@ use borrow.Author.Needs.{needs}
 use Rattle.same.proofs.same.Statement.{statement}
 use Rattle.same.proofs.same.Tie as tie
 
-slice-aggregate-open : tie.Need-slice-aggregate-open
-slice-aggregate-open c = search needs
-
-open-requires : tie.Need-open-requires
-open-requires c κs = search needs
-
-refused-requires : tie.Need-refused-requires
-refused-requires c κs = search needs
-
 returns : tie.Need-returns
 returns c =
     let n = number-is _ _ _ (c .before .before .before .before .«open» .ensures .0) (c .before .before .before .before .«open» .ensures .1) in
     c .refused .ensures ∙ ap refusedVerdict n ∙ sym (first-refused _ _ (λ e. c .before .if1 .taken (n ∙ e)))
-
-slice-aggregate-open-2 : tie.Need-slice-aggregate-open-2
-slice-aggregate-open-2 c = search needs
-
-open-requires-2 : tie.Need-open-requires-2
-open-requires-2 c κs = search needs
-
-refused-requires-2 : tie.Need-refused-requires-2
-refused-requires-2 c κs = search needs
 
 returns-2 : tie.Need-returns-2
 returns-2 c =
     let m = number-is _ _ _ (c .before .before .before .before .before .before .before .before .before .«open» .ensures .0) (c .before .before .before .before .before .before .before .before .before .«open» .ensures .1) in
     let n = number-is _ _ _ (c .before .before .before .before .open2 .ensures .0) (c .before .before .before .before .open2 .ensures .1) in
     c .refused2 .ensures ∙ ap refusedVerdict n ∙ sym (second-refused _ _ (sym m ∙ c .before .before .before .before .before .before .if1 .left) (λ e. c .before .if2 .taken (n ∙ e)))
-
-slice-aggregate-equal-words : tie.Need-slice-aggregate-equal-words
-slice-aggregate-equal-words c = search needs
-
-slice-aggregate-equal-words-2 : tie.Need-slice-aggregate-equal-words-2
-slice-aggregate-equal-words-2 c = search needs
-
-equal-words-requires : tie.Need-equal-words-requires
-equal-words-requires c κs = search needs
-
-decided-requires : tie.Need-decided-requires
-decided-requires c κs = search needs
 
 returns-3 : tie.Need-returns-3
 returns-3 c =
@@ -60,16 +30,16 @@ pub same-spec : {M : Type 1} → statement M
 same-spec =
     tie.close
     (tie.spec
-    slice-aggregate-open
-    open-requires
-    refused-requires
+    (λ c. search needs)
+    (λ c κs. search needs)
+    (λ c κs. search needs)
     returns
-    slice-aggregate-open-2
-    open-requires-2
-    refused-requires-2
+    (λ c. search needs)
+    (λ c κs. search needs)
+    (λ c κs. search needs)
     returns-2
-    slice-aggregate-equal-words
-    slice-aggregate-equal-words-2
-    equal-words-requires
-    decided-requires
+    (λ c. search needs)
+    (λ c. search needs)
+    (λ c κs. search needs)
+    (λ c κs. search needs)
     returns-3)

@@ -46,15 +46,6 @@ rate-of-requires c κs = omega (arith, c .before .before .before .before .before
 loop-holds : tie.Need-loop-holds Inv-loop μ-loop Inv-passes μ-passes
 loop-holds c = (given-none _ _ _, noted-none _ _ _)
 
-mul-unmet : tie.Need-mul-unmet Inv-loop μ-loop Inv-passes μ-passes
-mul-unmet c = search needs
-
-shared-slice-read-unmet : tie.Need-shared-slice-read-unmet Inv-loop μ-loop Inv-passes μ-passes
-shared-slice-read-unmet c = search needs
-
-mul-unmet-2 : tie.Need-mul-unmet-2 Inv-loop μ-loop Inv-passes μ-passes
-mul-unmet-2 c = search needs
-
 slice-read-unmet : tie.Need-slice-read-unmet Inv-loop μ-loop Inv-passes μ-passes
 slice-read-unmet c = omega (arith, c .before .before .before .loop .inv .0 .size, c .before .before .before .before .before .before .passes .inv .0 .running .size)
 
@@ -66,9 +57,6 @@ sub-unmet c =
       c .before .before .before .before .before .before .passes .inv .0 .running .within (c .before .before .before .loop .i) (c .before .before .loop-test .taken),
     )
 
-mul-portion : tie.Need-mul-portion Inv-loop μ-loop Inv-passes μ-passes
-mul-portion c = search needs
-
 array-read-portion : tie.Need-array-read-portion Inv-loop μ-loop Inv-passes μ-passes
 array-read-portion c = omega (arith, c .before .before .before .before .before .before .before .before .before .before .before .before .pre .sized .few)
 
@@ -78,9 +66,6 @@ portion-requires c κs =
     rated-open (now (c .before .before .before .before .before .before .before .before .before .before .before .before .args .claims)) (now (c .before .before .before .before .before .before .before .before .before .before .before .before .args .weights)) (c .before .before .before .before .before .before .passes .left) (c .before .before .before .before .before .before .passes .grants) (c .before .before .before .before .before .before .passes .open-weights) (c .before .before .before .loop .i) (c .before .before .before .before .before .before .passes .all) _ _
     (omega (arith, p .pooled, c .before .before .before .before .before .before .passes .inv .0 .running .counted)) (p .weighted) (c .before .before .loop-test .taken)
     (c .before .before .before .before .before .before .passes .inv .1 (omega arith)) (c .before .before .before .before .rate-of .ensures) (noted-later _ _ _ _ _ _ (c .before .before .before .loop .inv .1))
-
-smaller-requires : tie.Need-smaller-requires Inv-loop μ-loop Inv-passes μ-passes
-smaller-requires c κs = search needs
 
 -- the holder's part is the definition's
 part : (c : tie.After-smaller Inv-loop μ-loop Inv-passes μ-passes) →
@@ -92,9 +77,6 @@ part c =
     (c .before .before .before .before .loop-test .taken) (c .before .before .before .before .before .before .before .before .passes .inv .1 (omega arith))
     (given-later _ _ _ _ _ _ (c .before .before .before .before .before .loop .inv .0)) refl (noted-later _ _ _ _ _ _ (c .before .before .before .before .before .loop .inv .1))
     (c .before .portion .ensures) (c .smaller .ensures)
-
-mul-grants : tie.Need-mul-grants Inv-loop μ-loop Inv-passes μ-passes
-mul-grants c = search needs
 
 slice-read-grants : tie.Need-slice-read-grants Inv-loop μ-loop Inv-passes μ-passes
 slice-read-grants c = omega (arith, c .before .before .before .before .before .before .loop .inv .0 .size, c .before .before .before .before .before .before .before .before .before .passes .inv .0 .running .size)
@@ -121,14 +103,8 @@ add-given c =
       c .before .before .before .before .before .before .before .before .before .before .before .before .before .before .before .pre .pooled,
     )
 
-mul-weight-after : tie.Need-mul-weight-after Inv-loop μ-loop Inv-passes μ-passes
-mul-weight-after c = search needs
-
 array-read-weight-after : tie.Need-array-read-weight-after Inv-loop μ-loop Inv-passes μ-passes
 array-read-weight-after c = omega (arith, c .before .before .before .before .before .before .before .before .before .before .before .before .before .before .before .pre .sized .few)
-
-weight-after-requires : tie.Need-weight-after-requires Inv-loop μ-loop Inv-passes μ-passes
-weight-after-requires c κs = search needs
 
 -- what the holder then brings into W is the definition's
 after : (c : tie.After-weight-after Inv-loop μ-loop Inv-passes μ-passes) →
@@ -140,9 +116,6 @@ after c =
     (c .before .before .before .before .before .before .loop-test .taken) (c .before .before .before .before .before .before .before .before .before .before .passes .inv .1 (omega arith))
     (given-later _ _ _ _ _ _ (c .before .before .before .before .before .before .before .loop .inv .0)) refl (noted-later _ _ _ _ _ _ (c .before .before .before .before .before .before .before .loop .inv .1))
     (c .before .before .before .portion .ensures) (c .before .before .smaller .ensures) (c .weight-after .ensures)
-
-mul-open-weights : tie.Need-mul-open-weights Inv-loop μ-loop Inv-passes μ-passes
-mul-open-weights c = search needs
 
 array-write-open-weights : tie.Need-array-write-open-weights Inv-loop μ-loop Inv-passes μ-passes
 array-write-open-weights c = omega (arith, c .before .before .before .before .before .before .before .before .before .before .before .before .before .before .before .before .pre .sized .few)
@@ -158,12 +131,6 @@ add-still-open c =
           (λ j l. openWeight-most (now (a .claims)) (now (a .weights)) 100000000 (weighted (now (a .claims)) (now (a .weights)) (c .before .before .before .before .before .before .before .before .before .before .passes .left) (c .before .before .before .before .before .before .before .before .before .before .passes .grants)) j (p .weighted j l))
           (c .before .before .before .before .before .before .before .loop .inv .1) (c .before .before .before .before .before .before .loop-test .taken) (after (c)),
     )
-
-add-i : tie.Need-add-i Inv-loop μ-loop Inv-passes μ-passes
-add-i c = search needs
-
-loop-less : tie.Need-loop-less Inv-loop μ-loop Inv-passes μ-passes
-loop-less c = search needs
 
 loop-again : tie.Need-loop-again Inv-loop μ-loop Inv-passes μ-passes
 loop-again c = (
@@ -243,28 +210,28 @@ by-passes-spec =
     passes-holds
     rate-of-requires
     loop-holds
-    mul-unmet
-    shared-slice-read-unmet
-    mul-unmet-2
+    (λ c. search needs)
+    (λ c. search needs)
+    (λ c. search needs)
     slice-read-unmet
     sub-unmet
-    mul-portion
+    (λ c. search needs)
     array-read-portion
     portion-requires
-    smaller-requires
-    mul-grants
+    (λ c κs. search needs)
+    (λ c. search needs)
     slice-read-grants
     add-grants
     slice-write-grants
     add-given
-    mul-weight-after
+    (λ c. search needs)
     array-read-weight-after
-    weight-after-requires
-    mul-open-weights
+    (λ c κs. search needs)
+    (λ c. search needs)
     array-write-open-weights
     add-still-open
-    add-i
-    loop-less
+    (λ c. search needs)
+    (λ c. search needs)
     loop-again
     complete-requires
     sub-left

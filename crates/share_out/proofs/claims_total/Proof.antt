@@ -20,22 +20,10 @@ abbrev μ-loop : tie.MeasureT-loop
 loop-holds : tie.Need-loop-holds Inv-loop μ-loop
 loop-holds c = omega (arith, sumTo-zero (at (now (c .args .claims))))
 
-mul-total : tie.Need-mul-total Inv-loop μ-loop
-mul-total c = search needs
-
-shared-slice-read-total : tie.Need-shared-slice-read-total Inv-loop μ-loop
-shared-slice-read-total c = search needs
-
 -- the next claim is within its range
 add-total : tie.Need-add-total Inv-loop μ-loop
 add-total c =
     omega (arith, c .before .before .before .pre .1 (c .before .before .loop .i) (c .before .loop-test .taken))
-
-add-i : tie.Need-add-i Inv-loop μ-loop
-add-i c = search needs
-
-loop-less : tie.Need-loop-less Inv-loop μ-loop
-loop-less c = search needs
 
 loop-again : tie.Need-loop-again Inv-loop μ-loop
 loop-again c =
@@ -57,10 +45,10 @@ claims-total-spec =
     Inv-loop
     μ-loop
     loop-holds
-    mul-total
-    shared-slice-read-total
+    (λ c. search needs)
+    (λ c. search needs)
     add-total
-    add-i
-    loop-less
+    (λ c. search needs)
+    (λ c. search needs)
     loop-again
     returns)

@@ -20,23 +20,8 @@ abbrev μ-loop : tie.MeasureT-loop
 loop-holds : tie.Need-loop-holds Inv-loop μ-loop
 loop-holds c = (search needs, refl, sym (fill-zero _ _))
 
-mul-grants : tie.Need-mul-grants Inv-loop μ-loop
-mul-grants c = search needs
-
-shared-slice-read-grants : tie.Need-shared-slice-read-grants Inv-loop μ-loop
-shared-slice-read-grants c = search needs
-
-mul-grants-2 : tie.Need-mul-grants-2 Inv-loop μ-loop
-mul-grants-2 c = search needs
-
 slice-write-grants : tie.Need-slice-write-grants Inv-loop μ-loop
 slice-write-grants c = omega arith
-
-add-i : tie.Need-add-i Inv-loop μ-loop
-add-i c = search needs
-
-loop-less : tie.Need-loop-less Inv-loop μ-loop
-loop-less c = search needs
 
 loop-again : tie.Need-loop-again Inv-loop μ-loop
 loop-again c = (
@@ -63,12 +48,12 @@ grant-all-spec =
     Inv-loop
     μ-loop
     loop-holds
-    mul-grants
-    shared-slice-read-grants
-    mul-grants-2
+    (λ c. search needs)
+    (λ c. search needs)
+    (λ c. search needs)
     slice-write-grants
-    add-i
-    loop-less
+    (λ c. search needs)
+    (λ c. search needs)
     loop-again
     same-length
     returns)

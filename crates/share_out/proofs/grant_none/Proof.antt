@@ -23,18 +23,6 @@ abbrev μ-loop : tie.MeasureT-loop
 loop-holds : tie.Need-loop-holds Inv-loop μ-loop
 loop-holds c = (search needs, refl, sym (fill-zero _ _))
 
-mul-grants : tie.Need-mul-grants Inv-loop μ-loop
-mul-grants c = search needs
-
-slice-write-grants : tie.Need-slice-write-grants Inv-loop μ-loop
-slice-write-grants c = search needs
-
-add-i : tie.Need-add-i Inv-loop μ-loop
-add-i c = search needs
-
-loop-less : tie.Need-loop-less Inv-loop μ-loop
-loop-less c = search needs
-
 loop-again : tie.Need-loop-again Inv-loop μ-loop
 loop-again c = (
   search needs,
@@ -55,4 +43,4 @@ returns c =
 pub grant-none-spec : {M : Type 1} → statement M
 grant-none-spec =
     tie.close
-    (tie.spec Inv-loop μ-loop loop-holds mul-grants slice-write-grants add-i loop-less loop-again same-length returns)
+    (tie.spec Inv-loop μ-loop loop-holds (λ c. search needs) (λ c. search needs) (λ c. search needs) (λ c. search needs) loop-again same-length returns)

@@ -28,39 +28,6 @@ same-length c = c .before .before .loop .inv .size
 returns : tie.Need-returns Inv-loop μ-loop
 returns c = served-empty _ _ _ _ _ _ _ (c .before .before .before .before .before .pre .granted) (c .before .before .loop .inv) (c .if1 .taken)
 
-mul-excess : tie.Need-mul-excess Inv-loop μ-loop
-mul-excess c = search needs
-
-shared-slice-read-excess : tie.Need-shared-slice-read-excess Inv-loop μ-loop
-shared-slice-read-excess c = search needs
-
-mul-excess-2 : tie.Need-mul-excess-2 Inv-loop μ-loop
-mul-excess-2 c = search needs
-
-slice-read-excess : tie.Need-slice-read-excess Inv-loop μ-loop
-slice-read-excess c = search needs
-
-excess-requires : tie.Need-excess-requires Inv-loop μ-loop
-excess-requires c κs = search needs
-
-mul-want : tie.Need-mul-want Inv-loop μ-loop
-mul-want c = search needs
-
-element-copy-out-want : tie.Need-element-copy-out-want Inv-loop μ-loop
-element-copy-out-want c = search needs
-
-want-requires : tie.Need-want-requires Inv-loop μ-loop
-want-requires c κs = search needs
-
-smaller-requires : tie.Need-smaller-requires Inv-loop μ-loop
-smaller-requires c κs = search needs
-
-mul-grants : tie.Need-mul-grants Inv-loop μ-loop
-mul-grants c = search needs
-
-slice-read-grants : tie.Need-slice-read-grants Inv-loop μ-loop
-slice-read-grants c = search needs
-
 add-grants : tie.Need-add-grants Inv-loop μ-loop
 add-grants c =
     let a = c .before .before .before .before .before .before .before .before .before .before .before .before .args in
@@ -76,18 +43,6 @@ add-grants c =
       c .before .smaller .ensures,
     )
 
-slice-write-grants : tie.Need-slice-write-grants Inv-loop μ-loop
-slice-write-grants c = search needs
-
-sub-rest : tie.Need-sub-rest Inv-loop μ-loop
-sub-rest c = search needs
-
-add-i : tie.Need-add-i Inv-loop μ-loop
-add-i c = search needs
-
-loop-less : tie.Need-loop-less Inv-loop μ-loop
-loop-less c = search needs
-
 loop-again : tie.Need-loop-again Inv-loop μ-loop
 loop-again c =
     let a = c .before .before .before .before .before .before .before .before .before .before .before .before .args in
@@ -100,9 +55,6 @@ loop-again c =
     (served-later _ _ _ _ _ _ _ s)
     (c .before .before .before .before .excess .ensures)
     (c .before .before .want .ensures)))
-
-sub-result : tie.Need-sub-result Inv-loop μ-loop
-sub-result c = search needs
 
 same-length-2 : tie.Need-same-length-2 Inv-loop μ-loop
 same-length-2 c = c .before .loop .inv .size
@@ -120,23 +72,23 @@ serve-in-turn-spec =
     loop-holds
     same-length
     returns
-    mul-excess
-    shared-slice-read-excess
-    mul-excess-2
-    slice-read-excess
-    excess-requires
-    mul-want
-    element-copy-out-want
-    want-requires
-    smaller-requires
-    mul-grants
-    slice-read-grants
+    (λ c. search needs)
+    (λ c. search needs)
+    (λ c. search needs)
+    (λ c. search needs)
+    (λ c κs. search needs)
+    (λ c. search needs)
+    (λ c. search needs)
+    (λ c κs. search needs)
+    (λ c κs. search needs)
+    (λ c. search needs)
+    (λ c. search needs)
     add-grants
-    slice-write-grants
-    sub-rest
-    add-i
-    loop-less
+    (λ c. search needs)
+    (λ c. search needs)
+    (λ c. search needs)
+    (λ c. search needs)
     loop-again
-    sub-result
+    (λ c. search needs)
     same-length-2
     returns-2)

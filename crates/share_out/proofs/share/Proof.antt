@@ -16,15 +16,6 @@ claims-total-requires c κs =
     let p = c .before .before .before .pre in
     (p .sized .few, fit-claims _ _ _ (p .ranged))
 
-grant-all-requires : tie.Need-grant-all-requires
-grant-all-requires c κs = search needs
-
-granted-requires : tie.Need-granted-requires
-granted-requires c κs = search needs
-
-same-length : tie.Need-same-length
-same-length c = search needs
-
 returns : tie.Need-returns
 returns c =
     let a = c .before .before .before .before .before .before .before .before .before .before .args in
@@ -34,9 +25,6 @@ returns c =
       c .before .before .before .grant-all .ensures
           ∙ sym (ap (λ (s : Shared). s .grants) (shared-fits (a .pool) (now (a .claims)) (now (a .weights)) (omega (arith, total .ensures)))),
     )
-
-grant-none-requires : tie.Need-grant-none-requires
-grant-none-requires c κs = search needs
 
 by-passes-requires : tie.Need-by-passes-requires
 by-passes-requires c κs =
@@ -49,12 +37,6 @@ by-passes-requires c κs =
       short = omega (arith, total .ensures);
       fresh = c .before .before .before .grant-none .ensures ∙ ap (λ n. tab n (λ i. 0)) (p .sized .granted);
     }
-
-granted-requires-2 : tie.Need-granted-requires-2
-granted-requires-2 c κs = search needs
-
-same-length-2 : tie.Need-same-length-2
-same-length-2 c = search needs
 
 returns-2 : tie.Need-returns-2
 returns-2 c =
@@ -71,12 +53,12 @@ share-spec =
     tie.close
     (tie.spec
     claims-total-requires
-    grant-all-requires
-    granted-requires
-    same-length
+    (λ c κs. search needs)
+    (λ c κs. search needs)
+    (λ c. search needs)
     returns
-    grant-none-requires
+    (λ c κs. search needs)
     by-passes-requires
-    granted-requires-2
-    same-length-2
+    (λ c κs. search needs)
+    (λ c. search needs)
     returns-2)

@@ -10,12 +10,6 @@ use Rattle.share_out.proofs.OutcomeLaws.{fit-lengths, outcome-lengths, 
 use Rattle.share_out.proofs.share_out.Statement.{statement}
 use Rattle.share_out.proofs.share_out.Tie as tie
 
-unfit-lengths-requires : tie.Need-unfit-lengths-requires
-unfit-lengths-requires c κs = search needs
-
-refused-requires : tie.Need-refused-requires
-refused-requires c κs = search needs
-
 returns : tie.Need-returns
 returns c =
     let a = c .before .before .before .before .before .before .args in
@@ -24,9 +18,6 @@ returns c =
 
 unfit-numbers-requires : tie.Need-unfit-numbers-requires
 unfit-numbers-requires c κs = fit-lengths _ _ _ (sym (c .before .unfit-lengths .ensures) ∙ c .if1 .left) .weighed
-
-refused-requires-2 : tie.Need-refused-requires-2
-refused-requires-2 c κs = search needs
 
 returns-2 : tie.Need-returns-2
 returns-2 c =
@@ -50,9 +41,6 @@ share-requires c κs =
       ranged = sym (c .before .before .unfit-numbers .ensures) ∙ c .before .if2 .left;
     }
 
-same-length : tie.Need-same-length
-same-length c = search needs
-
 returns-3 : tie.Need-returns-3
 returns-3 c =
     let a = c .before .before .before .before .before .before .before .before .before .before .before .args in
@@ -69,14 +57,14 @@ pub share-out-spec : {M : Type 1} → statement M
 share-out-spec =
     tie.close
     (tie.spec
-    unfit-lengths-requires
-    refused-requires
+    (λ c κs. search needs)
+    (λ c κs. search needs)
     returns
     unfit-numbers-requires
-    refused-requires-2
+    (λ c κs. search needs)
     returns-2
     slice-relend-prefix-share
     slice-aggregate-share
     share-requires
-    same-length
+    (λ c. search needs)
     returns-3)

@@ -23,32 +23,11 @@ abbrev μ-loop : tie.MeasureT-loop
 loop-holds : tie.Need-loop-holds Inv-loop μ-loop
 loop-holds c = search (needs, allTo-zero)
 
-mul-in-range : tie.Need-mul-in-range Inv-loop μ-loop
-mul-in-range c = search needs
-
-shared-slice-read-in-range : tie.Need-shared-slice-read-in-range Inv-loop μ-loop
-shared-slice-read-in-range c = search needs
-
-mul-in-range-2 : tie.Need-mul-in-range-2 Inv-loop μ-loop
-mul-in-range-2 c = search needs
-
-shared-slice-read-in-range-2 : tie.Need-shared-slice-read-in-range-2 Inv-loop μ-loop
-shared-slice-read-in-range-2 c = search needs
-
-in-range-requires : tie.Need-in-range-requires Inv-loop μ-loop
-in-range-requires c κs = search needs
-
 returns : tie.Need-returns Inv-loop μ-loop
 returns c =
     let a = c .before .before .before .before .before .before .before .before .args in
     sym
     (holder-over (now (a .claims)) (now (a .weights)) (c .before .before .before .before .before .loop .i) (c .before .before .before .before .loop-test .taken) (sym (c .before .in-range .ensures) ∙ not-true _ (c .if1 .taken)))
-
-add-i : tie.Need-add-i Inv-loop μ-loop
-add-i c = search needs
-
-loop-less : tie.Need-loop-less Inv-loop μ-loop
-loop-less c = search needs
 
 loop-again : tie.Need-loop-again Inv-loop μ-loop
 loop-again c = (
@@ -68,13 +47,13 @@ some-out-of-range-spec =
     Inv-loop
     μ-loop
     loop-holds
-    mul-in-range
-    shared-slice-read-in-range
-    mul-in-range-2
-    shared-slice-read-in-range-2
-    in-range-requires
+    (λ c. search needs)
+    (λ c. search needs)
+    (λ c. search needs)
+    (λ c. search needs)
+    (λ c κs. search needs)
     returns
-    add-i
-    loop-less
+    (λ c. search needs)
+    (λ c. search needs)
     loop-again
     returns-2)

@@ -10,15 +10,6 @@ use Rattle.share_out.proofs.unfit_numbers.Tie as tie
 returns : tie.Need-returns
 returns c = search (needs, pool-over)
 
-claim-bits-requires : tie.Need-claim-bits-requires
-claim-bits-requires c κs = search needs
-
-weight-bits-requires : tie.Need-weight-bits-requires
-weight-bits-requires c κs = search needs
-
-surely-in-range-requires : tie.Need-surely-in-range-requires
-surely-in-range-requires c κs = search needs
-
 returns-2 : tie.Need-returns-2
 returns-2 c =
     let s = c .before .before .before .before .before .before .before in
@@ -28,9 +19,6 @@ returns-2 c =
     sym
     (all-fit (s .args .pool) claims weights (c .before .before .before .before .if1 .left)
     (surely-fit claims weights _ _ (c .before .before .before .claim-bits .ensures) (λ i l. w .ensures i (omega (arith, s .pre))) (sym (c .before .surely-in-range .ensures) ∙ c .if2 .taken)))
-
-some-out-of-range-requires : tie.Need-some-out-of-range-requires
-some-out-of-range-requires c κs = search needs
 
 returns-3 : tie.Need-returns-3
 returns-3 c =
@@ -42,9 +30,9 @@ unfit-numbers-spec =
     tie.close
     (tie.spec
     returns
-    claim-bits-requires
-    weight-bits-requires
-    surely-in-range-requires
+    (λ c κs. search needs)
+    (λ c κs. search needs)
+    (λ c κs. search needs)
     returns-2
-    some-out-of-range-requires
+    (λ c κs. search needs)
     returns-3)

@@ -21,27 +21,6 @@ abbrev μ-loop : tie.MeasureT-loop
 loop-holds : tie.Need-loop-holds Inv-loop μ-loop
 loop-holds c = noted-none _ _ _
 
-mul-open-weight : tie.Need-mul-open-weight Inv-loop μ-loop
-mul-open-weight c = search needs
-
-shared-slice-read-open-weight : tie.Need-shared-slice-read-open-weight Inv-loop μ-loop
-shared-slice-read-open-weight c = search needs
-
-mul-open-weight-2 : tie.Need-mul-open-weight-2 Inv-loop μ-loop
-mul-open-weight-2 c = search needs
-
-shared-slice-read-open-weight-2 : tie.Need-shared-slice-read-open-weight-2 Inv-loop μ-loop
-shared-slice-read-open-weight-2 c = search needs
-
-open-weight-requires : tie.Need-open-weight-requires Inv-loop μ-loop
-open-weight-requires c κs = search needs
-
-mul-open-weights : tie.Need-mul-open-weights Inv-loop μ-loop
-mul-open-weights c = search needs
-
-element-write-open-weights : tie.Need-element-write-open-weights Inv-loop μ-loop
-element-write-open-weights c = search needs
-
 add-all : tie.Need-add-all Inv-loop μ-loop
 add-all c =
     let a = c .before .before .before .before .before .before .before .args in
@@ -53,12 +32,6 @@ add-all c =
           (λ j l. openWeight-most (now (a .claims)) (now (a .weights)) 100000000 (none (now (a .claims))) j (p .ranged j l)) (c .before .before .before .before .loop .inv) (c .before .before .before .loop-test .taken)
           (first-is (now (a .claims)) (now (a .weights)) (c .before .before .before .before .loop .i) _ (c .before .before .before .loop-test .taken) (c .open-weight .ensures)),
     )
-
-add-i : tie.Need-add-i Inv-loop μ-loop
-add-i c = search needs
-
-loop-less : tie.Need-loop-less Inv-loop μ-loop
-loop-less c = search needs
 
 loop-again : tie.Need-loop-again Inv-loop μ-loop
 loop-again c =
@@ -76,15 +49,15 @@ weigh-open-spec =
     Inv-loop
     μ-loop
     loop-holds
-    mul-open-weight
-    shared-slice-read-open-weight
-    mul-open-weight-2
-    shared-slice-read-open-weight-2
-    open-weight-requires
-    mul-open-weights
-    element-write-open-weights
+    (λ c. search needs)
+    (λ c. search needs)
+    (λ c. search needs)
+    (λ c. search needs)
+    (λ c κs. search needs)
+    (λ c. search needs)
+    (λ c. search needs)
     add-all
-    add-i
-    loop-less
+    (λ c. search needs)
+    (λ c. search needs)
     loop-again
     returns)

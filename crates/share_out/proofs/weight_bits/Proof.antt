@@ -24,21 +24,6 @@ abbrev μ-loop : tie.MeasureT-loop
 loop-holds : tie.Need-loop-holds Inv-loop μ-loop
 loop-holds c = (search needs, covered-none _)
 
-mul-raised : tie.Need-mul-raised Inv-loop μ-loop
-mul-raised c = search needs
-
-shared-slice-read-raised : tie.Need-shared-slice-read-raised Inv-loop μ-loop
-shared-slice-read-raised c = search needs
-
-raised-requires : tie.Need-raised-requires Inv-loop μ-loop
-raised-requires c κs = search needs
-
-add-i : tie.Need-add-i Inv-loop μ-loop
-add-i c = search needs
-
-loop-less : tie.Need-loop-less Inv-loop μ-loop
-loop-less c = search needs
-
 loop-again : tie.Need-loop-again Inv-loop μ-loop
 loop-again c =
     let l = c .before .before .before .loop in
@@ -54,10 +39,10 @@ weight-bits-spec =
     Inv-loop
     μ-loop
     loop-holds
-    mul-raised
-    shared-slice-read-raised
-    raised-requires
-    add-i
-    loop-less
+    (λ c. search needs)
+    (λ c. search needs)
+    (λ c κs. search needs)
+    (λ c. search needs)
+    (λ c. search needs)
     loop-again
     returns)

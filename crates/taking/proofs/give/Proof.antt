@@ -6,27 +6,6 @@ use borrow.Author.Needs.{needs}
 use Rattle.taking.proofs.give.Statement.{statement}
 use Rattle.taking.proofs.give.Tie as tie
 
-word-requires : tie.Need-word-requires
-word-requires c κs = search needs
-
-pair-word-requires : tie.Need-pair-word-requires
-pair-word-requires c κs = search needs
-
-sub-store : tie.Need-sub-store
-sub-store c = search needs
-
-store-requires : tie.Need-store-requires
-store-requires c κs = search needs
-
-add-store-pair : tie.Need-add-store-pair
-add-store-pair c = search needs
-
-store-pair-requires : tie.Need-store-pair-requires
-store-pair-requires c κs = search needs
-
-same-length : tie.Need-same-length
-same-length c = search needs
-
 returns : tie.Need-returns
 returns c =
     let second = c .before .before in
@@ -40,11 +19,11 @@ pub give-spec : {M : Type 1} → statement M
 give-spec =
     tie.close
     (tie.spec
-    word-requires
-    pair-word-requires
-    sub-store
-    store-requires
-    add-store-pair
-    store-pair-requires
-    same-length
+    (λ c κs. search needs)
+    (λ c κs. search needs)
+    (λ c. search needs)
+    (λ c κs. search needs)
+    (λ c. search needs)
+    (λ c κs. search needs)
+    (λ c. search needs)
     returns)

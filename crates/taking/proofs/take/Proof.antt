@@ -16,24 +16,12 @@ done : (c : tie.Else1) →
     TakeDone (now (a .state)) (a .holder) (a .intertie) (a .kw) (a .day)
 done c = take-done _ _ _ _ _ (sym (c .before .take-refusal .ensures) ∙ c .if1 .left)
 
-take-refusal-requires : tie.Need-take-refusal-requires
-take-refusal-requires c κs = search needs
-
-refused-requires : tie.Need-refused-requires
-refused-requires c κs = search needs
-
-same-length : tie.Need-same-length
-same-length c = search needs
-
 returns : tie.Need-returns
 unfolding take
 returns c = answers-refused _ _ _ _ _ (c .before .before .take-refusal .ensures) (c .before .if1 .taken) (c .refused .ensures)
 
 calendar-after-requires : tie.Need-calendar-after-requires
 calendar-after-requires c κs = done (c .before) .under-two
-
-take-kw-requires : tie.Need-take-kw-requires
-take-kw-requires c κs = search needs
 
 cast-give : tie.Need-cast-give
 cast-give c =
@@ -45,15 +33,6 @@ give-requires c κs =
     let read = c .before in
     let d = done (read .before .before .before .before) in
     (omega (arith, take-within _ _ _ _ _ d, read .take-kw .ensures), omega (arith, take-fits _ _ _ _ _ d, read .take-kw .ensures))
-
-keep-calendar-requires : tie.Need-keep-calendar-requires
-keep-calendar-requires c κs = search needs
-
-granted-requires : tie.Need-granted-requires
-granted-requires c κs = search needs
-
-same-length-2 : tie.Need-same-length-2
-same-length-2 c = search needs
 
 returns-2 : tie.Need-returns-2
 unfolding take
@@ -70,15 +49,15 @@ pub take-spec : {M : Type 1} → statement M
 take-spec =
     tie.close
     (tie.spec
-    take-refusal-requires
-    refused-requires
-    same-length
+    (λ c κs. search needs)
+    (λ c κs. search needs)
+    (λ c. search needs)
     returns
     calendar-after-requires
-    take-kw-requires
+    (λ c κs. search needs)
     cast-give
     give-requires
-    keep-calendar-requires
-    granted-requires
-    same-length-2
+    (λ c κs. search needs)
+    (λ c κs. search needs)
+    (λ c. search needs)
     returns-2)

@@ -5,43 +5,25 @@ use borrow.Author.Needs.{needs}
 use Rattle.taking.proofs.take_refusal.Statement.{statement}
 use Rattle.taking.proofs.take_refusal.Tie as tie
 
-state-refusal-requires : tie.Need-state-refusal-requires
-state-refusal-requires c κs = search needs
-
 returns : tie.Need-returns
 unfolding takeRefusal
 returns c = search turns depth 8
-
-not-open-requires : tie.Need-not-open-requires
-not-open-requires c κs = search needs
 
 returns-2 : tie.Need-returns-2
 unfolding takeRefusal
 returns-2 c = search turns depth 8
 
-no-pair-requires : tie.Need-no-pair-requires
-no-pair-requires c κs = search needs
-
 returns-3 : tie.Need-returns-3
 unfolding takeRefusal
 returns-3 c = search turns depth 8
-
-bad-kw-requires : tie.Need-bad-kw-requires
-bad-kw-requires c κs = search needs
 
 returns-4 : tie.Need-returns-4
 unfolding takeRefusal
 returns-4 c = search turns depth 8
 
-day-refused-requires : tie.Need-day-refused-requires
-day-refused-requires c κs = search needs
-
 returns-5 : tie.Need-returns-5
 unfolding takeRefusal
 returns-5 c = search turns depth 8
-
-none-unassigned-requires : tie.Need-none-unassigned-requires
-none-unassigned-requires c κs = search needs
 
 returns-6 : tie.Need-returns-6
 unfolding takeRefusal
@@ -55,16 +37,16 @@ pub take-refusal-spec : {M : Type 1} → statement M
 take-refusal-spec =
     tie.close
     (tie.spec
-    state-refusal-requires
+    (λ c κs. search needs)
     returns
-    not-open-requires
+    (λ c κs. search needs)
     returns-2
-    no-pair-requires
+    (λ c κs. search needs)
     returns-3
-    bad-kw-requires
+    (λ c κs. search needs)
     returns-4
-    day-refused-requires
+    (λ c κs. search needs)
     returns-5
-    none-unassigned-requires
+    (λ c κs. search needs)
     returns-6
     returns-7)

@@ -7,12 +7,6 @@ use Rattle.trading.proofs.RequestLaws.{request-done}
 use Rattle.trading.proofs.add_pending.Statement.{statement}
 use Rattle.trading.proofs.add_pending.Tie as tie
 
-pair-word-requires : tie.Need-pair-word-requires
-pair-word-requires c κs = search needs
-
-cast-pending : tie.Need-cast-pending
-cast-pending c = search needs
-
 add-more : tie.Need-add-more
 add-more c =
     let d = request-done _ _ _ _ (c .before .before .before .pre) in
@@ -23,12 +17,6 @@ cast-store-pair c =
     let d = request-done _ _ _ _ (c .before .before .before .before .pre) in
     omega (arith, unplaced-most (d .orderly) _ (d .holder-is), pair-pending-most (d .orderly) _ _ (d .holder-is) (d .intertie-is))
 
-store-pair-requires : tie.Need-store-pair-requires
-store-pair-requires c κs = search needs
-
-same-length : tie.Need-same-length
-same-length c = search needs
-
 returns : tie.Need-returns
 unfolding requestState
 returns c = rw (c .before .before .store-pair .ensures, c .before .before .before .before .pair-word .ensures)
@@ -37,10 +25,10 @@ pub add-pending-spec : {M : Type 1} → statement M
 add-pending-spec =
     tie.close
     (tie.spec
-    pair-word-requires
-    cast-pending
+    (λ c κs. search needs)
+    (λ c. search needs)
     add-more
     cast-store-pair
-    store-pair-requires
-    same-length
+    (λ c κs. search needs)
+    (λ c. search needs)
     returns)

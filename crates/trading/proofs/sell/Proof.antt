@@ -7,24 +7,15 @@ use Rattle.trading.proofs.TradeLaws.{trade-done}
 use Rattle.trading.proofs.sell.Statement.{statement}
 use Rattle.trading.proofs.sell.Tie as tie
 
-unplaced-requires : tie.Need-unplaced-requires
-unplaced-requires c κs = search needs
-
 sub-left : tie.Need-sub-left
 sub-left c =
     let d = trade-done _ _ _ _ (c .before .before .before .pre) in
     omega arith
 
-unplaced-requires-2 : tie.Need-unplaced-requires-2
-unplaced-requires-2 c κs = search needs
-
 add-bought : tie.Need-add-bought
 add-bought c =
     let d = trade-done _ _ _ _ (c .before .before .before .before .before .pre) in
     omega (arith, unplaced-most (d .orderly) _ (d .buyer-is))
-
-word-requires : tie.Need-word-requires
-word-requires c κs = search needs
 
 with-seller-requires : tie.Need-with-seller-requires
 with-seller-requires c κs =
@@ -36,22 +27,10 @@ cast-store c =
     let d = trade-done _ _ _ _ (c .before .before .before .before .before .before .before .before .before .pre) in
     omega (arith, unplaced-most (d .orderly) _ (d .seller-is))
 
-store-requires : tie.Need-store-requires
-store-requires c κs = search needs
-
 cast-store-2 : tie.Need-cast-store-2
 cast-store-2 c =
     let d = trade-done _ _ _ _ (c .before .before .before .before .before .before .before .before .before .before .before .before .before .pre) in
     omega (arith, unplaced-most (d .orderly) _ (d .buyer-is))
-
-store-requires-2 : tie.Need-store-requires-2
-store-requires-2 c κs = search needs
-
-store-requires-3 : tie.Need-store-requires-3
-store-requires-3 c κs = search needs
-
-same-length : tie.Need-same-length
-same-length c = search needs
 
 returns : tie.Need-returns
 unfolding tradeState
@@ -77,16 +56,16 @@ pub sell-spec : {M : Type 1} → statement M
 sell-spec =
     tie.close
     (tie.spec
-    unplaced-requires
+    (λ c κs. search needs)
     sub-left
-    unplaced-requires-2
+    (λ c κs. search needs)
     add-bought
-    word-requires
+    (λ c κs. search needs)
     with-seller-requires
     cast-store
-    store-requires
+    (λ c κs. search needs)
     cast-store-2
-    store-requires-2
-    store-requires-3
-    same-length
+    (λ c κs. search needs)
+    (λ c κs. search needs)
+    (λ c. search needs)
     returns)

@@ -5,27 +5,9 @@ use Rattle.call.proofs.LadderLaws.{answers-refused, answers-done}
 use Rattle.trading.proofs.trade.Statement.{statement}
 use Rattle.trading.proofs.trade.Tie as tie
 
-trade-refusal-requires : tie.Need-trade-refusal-requires
-trade-refusal-requires c κs = search needs
-
-refused-requires : tie.Need-refused-requires
-refused-requires c κs = search needs
-
-same-length : tie.Need-same-length
-same-length c = search needs
-
 returns : tie.Need-returns
 unfolding trade
 returns c = answers-refused _ _ _ _ _ (c .before .before .trade-refusal .ensures) (c .before .if1 .taken) (c .refused .ensures)
-
-sell-requires : tie.Need-sell-requires
-sell-requires c κs = search needs
-
-granted-requires : tie.Need-granted-requires
-granted-requires c κs = search needs
-
-same-length-2 : tie.Need-same-length-2
-same-length-2 c = search needs
 
 returns-2 : tie.Need-returns-2
 unfolding trade
@@ -35,11 +17,11 @@ pub trade-spec : {M : Type 1} → statement M
 trade-spec =
     tie.close
     (tie.spec
-    trade-refusal-requires
-    refused-requires
-    same-length
+    (λ c κs. search needs)
+    (λ c κs. search needs)
+    (λ c. search needs)
     returns
-    sell-requires
-    granted-requires
-    same-length-2
+    (λ c κs. search needs)
+    (λ c κs. search needs)
+    (λ c. search needs)
     returns-2)

@@ -5,36 +5,21 @@ use Rattle.call.proofs.LadderLaws.{turns}
 use Rattle.trading.proofs.trade_refusal.Statement.{statement}
 use Rattle.trading.proofs.trade_refusal.Tie as tie
 
-state-refusal-requires : tie.Need-state-refusal-requires
-state-refusal-requires c κs = search needs
-
 returns : tie.Need-returns
 unfolding tradeRefusal
 returns c = search turns depth 8
-
-no-trades-requires : tie.Need-no-trades-requires
-no-trades-requires c κs = search needs
 
 returns-2 : tie.Need-returns-2
 unfolding tradeRefusal
 returns-2 c = search turns depth 8
 
-unfit-parties-requires : tie.Need-unfit-parties-requires
-unfit-parties-requires c κs = search needs
-
 returns-3 : tie.Need-returns-3
 unfolding tradeRefusal
 returns-3 c = search turns depth 8
 
-bad-kw-requires : tie.Need-bad-kw-requires
-bad-kw-requires c κs = search needs
-
 returns-4 : tie.Need-returns-4
 unfolding tradeRefusal
 returns-4 c = search turns depth 8
-
-over-unplaced-requires : tie.Need-over-unplaced-requires
-over-unplaced-requires c κs = search needs
 
 returns-5 : tie.Need-returns-5
 unfolding tradeRefusal
@@ -48,14 +33,14 @@ pub trade-refusal-spec : {M : Type 1} → statement M
 trade-refusal-spec =
     tie.close
     (tie.spec
-    state-refusal-requires
+    (λ c κs. search needs)
     returns
-    no-trades-requires
+    (λ c κs. search needs)
     returns-2
-    unfit-parties-requires
+    (λ c κs. search needs)
     returns-3
-    bad-kw-requires
+    (λ c κs. search needs)
     returns-4
-    over-unplaced-requires
+    (λ c κs. search needs)
     returns-5
     returns-6)

@@ -23,9 +23,6 @@ Inv-loop state holder place keys₀ kws₀ ranks₀ interties drafted₀ interti
 abbrev μ-loop : tie.MeasureT-loop
 μ-loop state holder place keys₀ kws₀ ranks₀ interties drafted₀ intertie₀ keys kws ranks drafted intertie = interties - intertie
 
-word-requires : tie.Need-word-requires Inv-loop μ-loop
-word-requires c κs = search needs
-
 loop-holds : tie.Need-loop-holds Inv-loop μ-loop
 loop-holds c =
     let a = c .before .before .args in (
@@ -36,12 +33,6 @@ loop-holds c =
 
 add-lock-requires : tie.Need-add-lock-requires Inv-loop μ-loop
 add-lock-requires c κs = (c .before .before .before .before .before .before .before .pre .0, search needs, c .before .before .before .before .loop .inv .1)
-
-add-intertie : tie.Need-add-intertie Inv-loop μ-loop
-add-intertie c = search needs
-
-loop-less : tie.Need-loop-less Inv-loop μ-loop
-loop-less c = search needs
 
 loop-again : tie.Need-loop-again Inv-loop μ-loop
 loop-again c =
@@ -72,10 +63,10 @@ add-holder-locks-spec =
     (tie.spec
     Inv-loop
     μ-loop
-    word-requires
+    (λ c κs. search needs)
     loop-holds
     add-lock-requires
-    add-intertie
-    loop-less
+    (λ c. search needs)
+    (λ c. search needs)
     loop-again
     returns)

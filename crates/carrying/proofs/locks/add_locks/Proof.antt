@@ -23,9 +23,6 @@ Inv-loop state place keys₀ kws₀ ranks₀ holders drafted₀ holder₀ keys k
 abbrev μ-loop : tie.MeasureT-loop
 μ-loop state place keys₀ kws₀ ranks₀ holders drafted₀ holder₀ keys kws ranks drafted holder = holders - holder
 
-word-requires : tie.Need-word-requires Inv-loop μ-loop
-word-requires c κs = search needs
-
 loop-holds : tie.Need-loop-holds Inv-loop μ-loop
 loop-holds c =
     let a = c .before .before .args in (
@@ -38,12 +35,6 @@ add-holder-locks-requires : tie.Need-add-holder-locks-requires Inv-loop μ-loop
 add-holder-locks-requires c κs =
     let few : holders (now (c .before .before .before .before .before .before .before .args .state)) ≤ 32 = c .before .before .before .before .before .before .before .pre .1 in
     (omega (arith, c .before .before .before .loop-test .taken, c .before .before .before .before .before .word .ensures), c .before .before .before .before .before .before .before .pre .0, c .before .before .before .before .loop .inv .1)
-
-add-holder : tie.Need-add-holder Inv-loop μ-loop
-add-holder c = search needs
-
-loop-less : tie.Need-loop-less Inv-loop μ-loop
-loop-less c = search needs
 
 loop-again : tie.Need-loop-again Inv-loop μ-loop
 loop-again c =
@@ -74,10 +65,10 @@ add-locks-spec =
     (tie.spec
     Inv-loop
     μ-loop
-    word-requires
+    (λ c κs. search needs)
     loop-holds
     add-holder-locks-requires
-    add-holder
-    loop-less
+    (λ c. search needs)
+    (λ c. search needs)
     loop-again
     returns)

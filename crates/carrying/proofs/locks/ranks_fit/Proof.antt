@@ -25,18 +25,6 @@ abbrev μ-loop : tie.MeasureT-loop
 loop-holds : tie.Need-loop-holds Inv-loop μ-loop
 loop-holds c = (search needs, sym (allTo-zero _))
 
-mul-fit : tie.Need-mul-fit Inv-loop μ-loop
-mul-fit c = search needs
-
-element-copy-out-fit : tie.Need-element-copy-out-fit Inv-loop μ-loop
-element-copy-out-fit c = search needs
-
-add-holder : tie.Need-add-holder Inv-loop μ-loop
-add-holder c = search needs
-
-loop-less : tie.Need-loop-less Inv-loop μ-loop
-loop-less c = search needs
-
 loop-again : tie.Need-loop-again Inv-loop μ-loop
 loop-again c = (search needs, all-more _ (low (now (c .before .before .before .args .ranks))) _ _ (c .before .before .loop .inv .1) refl)
 
@@ -50,9 +38,9 @@ ranks-fit-spec =
     Inv-loop
     μ-loop
     loop-holds
-    mul-fit
-    element-copy-out-fit
-    add-holder
-    loop-less
+    (λ c. search needs)
+    (λ c. search needs)
+    (λ c. search needs)
+    (λ c. search needs)
     loop-again
     returns)

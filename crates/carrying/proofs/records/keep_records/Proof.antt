@@ -9,10 +9,10 @@ use lib.ListN.{length, replicate}
 use borrow.Author.Needs.{needs}
 use denote.Ref.{now}
 use Rattle.base.specs.Choice.{pick}
-use Rattle.sheets.specs.Sheet.{count}
-use Rattle.sheets.specs.Reading.{readAt, readOf}
-use Rattle.sheets.proofs.RefusalLaws.{whole, counted}
-use Rattle.sheets.proofs.ReadingLaws.{RecordRead, of-whole, record-read, at-end}
+use Rattle.sheet_records.specs.Sheet.{count}
+use Rattle.sheet_records.specs.Reading.{readAt, readOf}
+use Rattle.sheet_records.proofs.RefusalLaws.{whole, counted}
+use Rattle.sheet_records.proofs.ReadingLaws.{RecordRead, of-whole, record-read, at-end}
 use Rattle.carrying.specs.Lines.{kept}
 use Rattle.carrying.specs.Draft.{Drafted}
 use Rattle.carrying.proofs.LineLaws.{kept-none}
@@ -42,15 +42,6 @@ here : (c : tie.After-read Inv-loop μ-loop) →
     RecordRead (now (entry head .args .sheet)) (head .loop .cursor .at) (c .read .given .0 .0) (c .read .given .0 .1 .0)
 here c = record-read _ _ _ _ _ (entry (c .before .before .before) .pre .0) (c .before .before .read-record .ensures ∙ at-place (c .before .before .before) _ (c .before .before .before .before .before .before .record-count .ensures)) (c .read .given .1)
 
-record-count-requires : tie.Need-record-count-requires Inv-loop μ-loop
-record-count-requires c κs = search needs
-
-cast-count : tie.Need-cast-count Inv-loop μ-loop
-cast-count c = search needs
-
-first-requires : tie.Need-first-requires Inv-loop μ-loop
-first-requires c κs = search needs
-
 loop-holds : tie.Need-loop-holds Inv-loop μ-loop
 loop-holds c =
     let a = c .before .before .before .before .args in (
@@ -59,12 +50,6 @@ loop-holds c =
           (sym (kept-none (now (a .sheet))) ∙ ap (kept (now (a .sheet))) (sym (c .first .ensures)))
           (drafted-none (now (a .keys)) (now (a .kws)) (c .before .before .before .before .pre .1) (c .before .before .before .before .pre .2)),
     )
-
-read-record-requires : tie.Need-read-record-requires Inv-loop μ-loop
-read-record-requires c κs = search needs
-
-enum-known-read : tie.Need-enum-known-read Inv-loop μ-loop
-enum-known-read c = search needs
 
 keep-record-requires : tie.Need-keep-record-requires Inv-loop μ-loop
 keep-record-requires c κs =
@@ -84,9 +69,6 @@ loop-again c =
       kept-next _ _ _ sheet _ _ _ _ _ (found .key-is) (found .kw-is) (found .next-is) (c .keep-record .ensures (kept sheet (head .loop .cursor .at)) (head .loop .inv .1)),
     )
 
-enum-told : tie.Need-enum-told Inv-loop μ-loop
-enum-told c = search needs
-
 returns : tie.Need-returns Inv-loop μ-loop
 returns c =
     let head = c .before .before .before in
@@ -100,14 +82,14 @@ keep-records-spec =
     (tie.spec
     Inv-loop
     μ-loop
-    record-count-requires
-    cast-count
-    first-requires
+    (λ c κs. search needs)
+    (λ c. search needs)
+    (λ c κs. search needs)
     loop-holds
-    read-record-requires
-    enum-known-read
+    (λ c κs. search needs)
+    (λ c. search needs)
     keep-record-requires
     loop-less
     loop-again
-    enum-told
+    (λ c. search needs)
     returns)

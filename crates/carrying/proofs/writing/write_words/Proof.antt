@@ -18,24 +18,6 @@ abbrev μ-loop : tie.MeasureT-loop
 loop-holds : tie.Need-loop-holds Inv-loop μ-loop
 loop-holds c = let a = c .before .args in (search needs, refl, spelled-none (now (a .words)) (a .count) (a .from) (now (a .output)))
 
-mul-write-word : tie.Need-mul-write-word Inv-loop μ-loop
-mul-write-word c = search needs
-
-element-copy-out-write-word : tie.Need-element-copy-out-write-word Inv-loop μ-loop
-element-copy-out-write-word c = search needs
-
-add-write-word : tie.Need-add-write-word Inv-loop μ-loop
-add-write-word c = search needs
-
-write-word-requires : tie.Need-write-word-requires Inv-loop μ-loop
-write-word-requires c κs = search needs
-
-add-k : tie.Need-add-k Inv-loop μ-loop
-add-k c = search needs
-
-loop-less : tie.Need-loop-less Inv-loop μ-loop
-loop-less c = search needs
-
 loop-again : tie.Need-loop-again Inv-loop μ-loop
 loop-again c =
     let a = c .before .before .before .before .before .before .before .before .args in
@@ -45,9 +27,6 @@ loop-again c =
       ap length wrote ∙ simp length-set (inv .1),
       spelled-more (now (a .words)) (a .count) (a .from) (now (a .output)) _ _ _ (inv .2) (c .before .before .before .before .before .loop-test .taken) wrote,
     )
-
-same-length : tie.Need-same-length Inv-loop μ-loop
-same-length c = search needs
 
 returns : tie.Need-returns Inv-loop μ-loop
 returns c =
@@ -62,12 +41,12 @@ write-words-spec =
     Inv-loop
     μ-loop
     loop-holds
-    mul-write-word
-    element-copy-out-write-word
-    add-write-word
-    write-word-requires
-    add-k
-    loop-less
+    (λ c. search needs)
+    (λ c. search needs)
+    (λ c. search needs)
+    (λ c κs. search needs)
+    (λ c. search needs)
+    (λ c. search needs)
     loop-again
-    same-length
+    (λ c. search needs)
     returns)

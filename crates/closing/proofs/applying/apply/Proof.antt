@@ -9,22 +9,10 @@ use borrow.Author.Needs.{needs}
 use Rattle.closing.proofs.applying.apply.Statement.{statement}
 use Rattle.closing.proofs.applying.apply.Tie as tie
 
-slice-aggregate-left-unassigned : tie.Need-slice-aggregate-left-unassigned
-slice-aggregate-left-unassigned c = search needs
-
 left-unassigned-requires : tie.Need-left-unassigned-requires
 left-unassigned-requires c κs =
     let p = c .before .before .before .before .pre in
     (p .0, p .1, omega (arith, length-zeros 48))
-
-intertie-count-requires : tie.Need-intertie-count-requires
-intertie-count-requires c κs = search needs
-
-holder-count-requires : tie.Need-holder-count-requires
-holder-count-requires c κs = search needs
-
-slice-aggregate-left-unplaced : tie.Need-slice-aggregate-left-unplaced
-slice-aggregate-left-unplaced c = search needs
 
 left-unplaced-requires : tie.Need-left-unplaced-requires
 left-unplaced-requires c κs =
@@ -41,12 +29,6 @@ left-unplaced-requires c κs =
       λ h k. rw (n .ensures) (table-to (now (s .args .state)) (now (s .args .table)) (p .1) (o .1) h (rw (← m .ensures) k)),
     )
 
-slice-aggregate-write-state : tie.Need-slice-aggregate-write-state
-slice-aggregate-write-state c = search needs
-
-slice-aggregate-write-state-2 : tie.Need-slice-aggregate-write-state-2
-slice-aggregate-write-state-2 c = search needs
-
 write-state-requires : tie.Need-write-state-requires
 write-state-requires c κs =
     let s = c .before .before .before .before .before .before .before .before .before .before .before .before .before .before .before .before .before in
@@ -59,24 +41,18 @@ write-state-requires c κs =
           (omega (arith, u .kept .1 .1 .0, length-zeros 48)) (u .ensures) (c .before .before .before .before .left-unplaced .ensures),
     )
 
-same-length : tie.Need-same-length
-same-length c = search needs
-
-returns : tie.Need-returns
-returns c = search needs
-
 pub apply-spec : {M : Type 1} → statement M
 apply-spec =
     tie.close
     (tie.spec
-    slice-aggregate-left-unassigned
+    (λ c. search needs)
     left-unassigned-requires
-    intertie-count-requires
-    holder-count-requires
-    slice-aggregate-left-unplaced
+    (λ c κs. search needs)
+    (λ c κs. search needs)
+    (λ c. search needs)
     left-unplaced-requires
-    slice-aggregate-write-state
-    slice-aggregate-write-state-2
+    (λ c. search needs)
+    (λ c. search needs)
     write-state-requires
-    same-length
-    returns)
+    (λ c. search needs)
+    (λ c. search needs))

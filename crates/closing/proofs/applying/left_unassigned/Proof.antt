@@ -5,7 +5,7 @@ use native.Mathlib.Omega.{arith}
 use denote.Ref.{now}
 use Rattle.base.specs.Sums.{sumTo}
 use Rattle.base.specs.Words.{at}
-use Rattle.interties.specs.Pairs.{atPair}
+use Rattle.intertie_shares.specs.Pairs.{atPair}
 use Rattle.state.specs.Layout.{unassignedOf}
 use Rattle.state.proofs.OrderlyLaws.{refusal-none}
 use Rattle.closing.proofs.GrantLaws.{table-on}
@@ -13,15 +13,6 @@ use Rattle.closing.proofs.SharingLaws.{read-words}
 use borrow.Author.Needs.{needs}
 use Rattle.closing.proofs.applying.left_unassigned.Statement.{statement}
 use Rattle.closing.proofs.applying.left_unassigned.Tie as tie
-
-intertie-count-requires : tie.Need-intertie-count-requires
-intertie-count-requires c κs = search needs
-
-holder-count-requires : tie.Need-holder-count-requires
-holder-count-requires c κs = search needs
-
-cast-read-row : tie.Need-cast-read-row
-cast-read-row c = search needs
 
 read-row-requires : tie.Need-read-row-requires
 read-row-requires c κs =
@@ -47,9 +38,6 @@ take-off-holders-requires c κs =
           (table-on (now (s .args .state)) (now (s .args .table)) (p .1) i (rw (← n .ensures) l)),
     )
 
-same-length : tie.Need-same-length
-same-length c = search needs
-
 returns : tie.Need-returns
 returns c =
     let a = c .before .before .before .before .before .before .before .before .before .before .before .before .before .args in
@@ -68,10 +56,10 @@ pub left-unassigned-spec : {M : Type 1} → statement M
 left-unassigned-spec =
     tie.close
     (tie.spec
-    intertie-count-requires
-    holder-count-requires
-    cast-read-row
+    (λ c κs. search needs)
+    (λ c κs. search needs)
+    (λ c. search needs)
     read-row-requires
     take-off-holders-requires
-    same-length
+    (λ c. search needs)
     returns)

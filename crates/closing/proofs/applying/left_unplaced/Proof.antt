@@ -8,7 +8,7 @@ use denote.Ref.{now}
 use Rattle.base.specs.Sums.{sumTo}
 use Rattle.base.specs.Words.{fill}
 use Rattle.base.proofs.WordLaws.{fill-zero}
-use Rattle.interties.specs.Pairs.{atPair}
+use Rattle.intertie_shares.specs.Pairs.{atPair}
 use Rattle.state.specs.Layout.{unplacedOf}
 use Rattle.state.proofs.BaseMore.{fill-turn, fill-end}
 use Rattle.closing.proofs.applying.left_unplaced.Statement.{statement}
@@ -26,44 +26,14 @@ Inv-loop state holders interties table row₀ first holder₀ row holder =
 abbrev μ-loop : tie.MeasureT-loop
 μ-loop state holders interties table row₀ first holder₀ row holder = holders - holder
 
-cast-first : tie.Need-cast-first Inv-loop μ-loop
-cast-first c = search needs
-
-mul-first : tie.Need-mul-first Inv-loop μ-loop
-mul-first c = search needs
-
 loop-holds : tie.Need-loop-holds Inv-loop μ-loop
 loop-holds c = (search needs, refl, sym (fill-zero _ _))
-
-add-unplaced : tie.Need-add-unplaced Inv-loop μ-loop
-add-unplaced c = search needs
-
-mul-unplaced : tie.Need-mul-unplaced Inv-loop μ-loop
-mul-unplaced c = search needs
-
-shared-slice-read-unplaced : tie.Need-shared-slice-read-unplaced Inv-loop μ-loop
-shared-slice-read-unplaced c = search needs
 
 cast-unplaced : tie.Need-cast-unplaced Inv-loop μ-loop
 cast-unplaced c = omega (arith, c .shared-slice-known3 .given (5040 + c .before .before .loop .holder))
 
-mul-left-of : tie.Need-mul-left-of Inv-loop μ-loop
-mul-left-of c = search needs
-
 left-of-requires : tie.Need-left-of-requires Inv-loop μ-loop
 left-of-requires c κs = (search needs, c .before .before .before .before .before .before .pre .5 (c .before .before .loop .holder) (c .before .loop-test .taken))
-
-mul-row : tie.Need-mul-row Inv-loop μ-loop
-mul-row c = search needs
-
-slice-write-row : tie.Need-slice-write-row Inv-loop μ-loop
-slice-write-row c = search needs
-
-add-holder : tie.Need-add-holder Inv-loop μ-loop
-add-holder c = search needs
-
-loop-less : tie.Need-loop-less Inv-loop μ-loop
-loop-less c = search needs
 
 loop-again : tie.Need-loop-again Inv-loop μ-loop
 loop-again c =
@@ -87,19 +57,19 @@ left-unplaced-spec =
     (tie.spec
     Inv-loop
     μ-loop
-    cast-first
-    mul-first
+    (λ c. search needs)
+    (λ c. search needs)
     loop-holds
-    add-unplaced
-    mul-unplaced
-    shared-slice-read-unplaced
+    (λ c. search needs)
+    (λ c. search needs)
+    (λ c. search needs)
     cast-unplaced
-    mul-left-of
+    (λ c. search needs)
     left-of-requires
-    mul-row
-    slice-write-row
-    add-holder
-    loop-less
+    (λ c. search needs)
+    (λ c. search needs)
+    (λ c. search needs)
+    (λ c. search needs)
     loop-again
     same-length
     returns)

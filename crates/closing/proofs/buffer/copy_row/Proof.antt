@@ -21,32 +21,8 @@ abbrev μ-loop : tie.MeasureT-loop
 loop-holds : tie.Need-loop-holds Inv-loop μ-loop
 loop-holds c = (search needs, refl, fillFrom-none _ _ _)
 
-add-grants : tie.Need-add-grants Inv-loop μ-loop
-add-grants c = search needs
-
-mul-grants : tie.Need-mul-grants Inv-loop μ-loop
-mul-grants c = search needs
-
-shared-slice-read-grants : tie.Need-shared-slice-read-grants Inv-loop μ-loop
-shared-slice-read-grants c = search needs
-
 cast-grants : tie.Need-cast-grants Inv-loop μ-loop
 cast-grants c = omega (arith, c .before .before .before .pre .2 (c .before .before .loop .c) (c .before .loop-test .taken))
-
-add-grants-2 : tie.Need-add-grants-2 Inv-loop μ-loop
-add-grants-2 c = search needs
-
-mul-grants-2 : tie.Need-mul-grants-2 Inv-loop μ-loop
-mul-grants-2 c = search needs
-
-slice-write-grants : tie.Need-slice-write-grants Inv-loop μ-loop
-slice-write-grants c = search needs
-
-add-c : tie.Need-add-c Inv-loop μ-loop
-add-c c = search needs
-
-loop-less : tie.Need-loop-less Inv-loop μ-loop
-loop-less c = search needs
 
 loop-again : tie.Need-loop-again Inv-loop μ-loop
 loop-again c =
@@ -71,15 +47,15 @@ copy-row-spec =
     Inv-loop
     μ-loop
     loop-holds
-    add-grants
-    mul-grants
-    shared-slice-read-grants
+    (λ c. search needs)
+    (λ c. search needs)
+    (λ c. search needs)
     cast-grants
-    add-grants-2
-    mul-grants-2
-    slice-write-grants
-    add-c
-    loop-less
+    (λ c. search needs)
+    (λ c. search needs)
+    (λ c. search needs)
+    (λ c. search needs)
+    (λ c. search needs)
     loop-again
     same-length
     returns)

@@ -8,7 +8,7 @@ use lib.ListN.{length}
 use denote.Ref.{now}
 use Rattle.base.specs.Words.{fill}
 use Rattle.base.proofs.WordLaws.{fill-zero}
-use Rattle.interties.specs.Pairs.{atPair}
+use Rattle.intertie_shares.specs.Pairs.{atPair}
 use Rattle.closing.proofs.TableLaws.{rows-further, next-row}
 use Rattle.closing.proofs.buffer.copy_rows.Statement.{statement}
 use Rattle.closing.proofs.buffer.copy_rows.Tie as tie
@@ -28,9 +28,6 @@ abbrev μ-loop : tie.MeasureT-loop
 loop-holds : tie.Need-loop-holds Inv-loop μ-loop
 loop-holds c = (search needs, search needs, sym (zero-mul (c .before .before .args .interties)), refl, sym (fill-zero _ _))
 
-mul-copy-row : tie.Need-mul-copy-row Inv-loop μ-loop
-mul-copy-row c = search needs
-
 copy-row-requires : tie.Need-copy-row-requires Inv-loop μ-loop
 copy-row-requires c κs =
     let p = c .before .before .before .before .before .pre in
@@ -39,15 +36,6 @@ copy-row-requires c κs =
       omega (arith, c .before .before .loop .inv .3),
       λ i l. p .4 m i (c .before .loop-test .taken) l,
     )
-
-add-next : tie.Need-add-next Inv-loop μ-loop
-add-next c = search needs
-
-add-holder : tie.Need-add-holder Inv-loop μ-loop
-add-holder c = search needs
-
-loop-less : tie.Need-loop-less Inv-loop μ-loop
-loop-less c = search needs
 
 loop-again : tie.Need-loop-again Inv-loop μ-loop
 loop-again c =
@@ -78,11 +66,11 @@ copy-rows-spec =
     Inv-loop
     μ-loop
     loop-holds
-    mul-copy-row
+    (λ c. search needs)
     copy-row-requires
-    add-next
-    add-holder
-    loop-less
+    (λ c. search needs)
+    (λ c. search needs)
+    (λ c. search needs)
     loop-again
     same-length
     returns)

@@ -7,12 +7,6 @@ use borrow.Author.Needs.{needs}
 use Rattle.closing.proofs.buffer.write_grants.Statement.{statement}
 use Rattle.closing.proofs.buffer.write_grants.Tie as tie
 
-intertie-count-requires : tie.Need-intertie-count-requires
-intertie-count-requires c κs = search needs
-
-holder-count-requires : tie.Need-holder-count-requires
-holder-count-requires c κs = search needs
-
 copy-rows-requires : tie.Need-copy-rows-requires
 copy-rows-requires c κs =
     let p = c .before .before .before .before .before .before .pre in
@@ -26,9 +20,6 @@ copy-rows-requires c κs =
       λ h i k l. p .1 .small h i (omega (arith, m)) (omega (arith, n)),
     )
 
-same-length : tie.Need-same-length
-same-length c = search needs
-
 returns : tie.Need-returns
 returns c =
     let a = c .before .before .before .before .before .before .before .before .before .args in
@@ -37,4 +28,4 @@ returns c =
 pub write-grants-spec : {M : Type 1} → statement M
 write-grants-spec =
     tie.close
-    (tie.spec intertie-count-requires holder-count-requires copy-rows-requires same-length returns)
+    (tie.spec (λ c κs. search needs) (λ c κs. search needs) copy-rows-requires (λ c. search needs) returns)

@@ -9,29 +9,11 @@ use borrow.Author.Needs.{needs}
 use Rattle.closing.proofs.sharing.share_out_pending.Statement.{statement}
 use Rattle.closing.proofs.sharing.share_out_pending.Tie as tie
 
-intertie-count-requires : tie.Need-intertie-count-requires
-intertie-count-requires c κs = search needs
-
-holder-count-requires : tie.Need-holder-count-requires
-holder-count-requires c κs = search needs
-
-cast-read-row : tie.Need-cast-read-row
-cast-read-row c = search needs
-
-slice-aggregate-read-row : tie.Need-slice-aggregate-read-row
-slice-aggregate-read-row c = search needs
-
 read-row-requires : tie.Need-read-row-requires
 read-row-requires c κs =
     let o = refusal-none _ (c .before .before .before .before .before .pre .0 .fit) in
     let few : c .before .before .intertie-count .result ≤ 48 = omega (arith, c .before .before .intertie-count .ensures, o .1 .interties-most) in
     (o .0, omega arith, few, omega (arith, length-zeros 48))
-
-cast-read-pairs : tie.Need-cast-read-pairs
-cast-read-pairs c = search needs
-
-slice-aggregate-read-pairs : tie.Need-slice-aggregate-read-pairs
-slice-aggregate-read-pairs c = search needs
 
 read-pairs-requires : tie.Need-read-pairs-requires
 read-pairs-requires c κs =
@@ -39,27 +21,6 @@ read-pairs-requires c κs =
     let few : c .before .before .before .before .before .intertie-count .result ≤ 48 = omega (arith, c .before .before .before .before .before .intertie-count .ensures, o .1 .interties-most) in
     let low : c .before .before .before .before .holder-count .result ≤ 32 = omega (arith, c .before .before .before .before .holder-count .ensures, o .1 .holders-most) in
     (o .0, omega arith, low, few, omega (arith, length-zeros 1536))
-
-slice-aggregate-weigh : tie.Need-slice-aggregate-weigh
-slice-aggregate-weigh c = search needs
-
-weigh-requires : tie.Need-weigh-requires
-weigh-requires c κs = search needs
-
-slice-aggregate-share-out-each : tie.Need-slice-aggregate-share-out-each
-slice-aggregate-share-out-each c = search needs
-
-slice-aggregate-share-out-each-2 : tie.Need-slice-aggregate-share-out-each-2
-slice-aggregate-share-out-each-2 c = search needs
-
-slice-aggregate-share-out-each-3 : tie.Need-slice-aggregate-share-out-each-3
-slice-aggregate-share-out-each-3 c = search needs
-
-share-out-each-requires : tie.Need-share-out-each-requires
-share-out-each-requires c κs = search needs
-
-same-length : tie.Need-same-length
-same-length c = search needs
 
 returns : tie.Need-returns
 returns c =
@@ -74,19 +35,19 @@ pub share-out-pending-spec : {M : Type 1} → statement M
 share-out-pending-spec =
     tie.close
     (tie.spec
-    intertie-count-requires
-    holder-count-requires
-    cast-read-row
-    slice-aggregate-read-row
+    (λ c κs. search needs)
+    (λ c κs. search needs)
+    (λ c. search needs)
+    (λ c. search needs)
     read-row-requires
-    cast-read-pairs
-    slice-aggregate-read-pairs
+    (λ c. search needs)
+    (λ c. search needs)
     read-pairs-requires
-    slice-aggregate-weigh
-    weigh-requires
-    slice-aggregate-share-out-each
-    slice-aggregate-share-out-each-2
-    slice-aggregate-share-out-each-3
-    share-out-each-requires
-    same-length
+    (λ c. search needs)
+    (λ c κs. search needs)
+    (λ c. search needs)
+    (λ c. search needs)
+    (λ c. search needs)
+    (λ c κs. search needs)
+    (λ c. search needs)
     returns)

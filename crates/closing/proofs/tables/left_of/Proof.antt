@@ -23,15 +23,6 @@ abbrev μ-loop : tie.MeasureT-loop
 loop-holds : tie.Need-loop-holds Inv-loop μ-loop
 loop-holds c = (search needs, less-none _ _)
 
-add-left : tie.Need-add-left Inv-loop μ-loop
-add-left c = search needs
-
-mul-left : tie.Need-mul-left Inv-loop μ-loop
-mul-left c = search needs
-
-shared-slice-read-left : tie.Need-shared-slice-read-left Inv-loop μ-loop
-shared-slice-read-left c = search needs
-
 sub-left : tie.Need-sub-left Inv-loop μ-loop
 sub-left c =
     let s = c .before .before .before in
@@ -41,12 +32,6 @@ sub-left c =
       l .inv .1,
       next-within (s .args .start) (s .args .count) (l .c) (word (now (s .args .table)) (s .args .from)) (s .pre .1) (c .before .loop-test .taken),
     )
-
-add-c : tie.Need-add-c Inv-loop μ-loop
-add-c c = search needs
-
-loop-less : tie.Need-loop-less Inv-loop μ-loop
-loop-less c = search needs
 
 loop-again : tie.Need-loop-again Inv-loop μ-loop
 loop-again c =
@@ -67,11 +52,11 @@ left-of-spec =
     Inv-loop
     μ-loop
     loop-holds
-    add-left
-    mul-left
-    shared-slice-read-left
+    (λ c. search needs)
+    (λ c. search needs)
+    (λ c. search needs)
     sub-left
-    add-c
-    loop-less
+    (λ c. search needs)
+    (λ c. search needs)
     loop-again
     returns)

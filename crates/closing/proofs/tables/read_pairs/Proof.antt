@@ -5,7 +5,7 @@ use mathlib.Core.List.{List}
 use native.Mathlib.Omega.{arith}
 use denote.Ref.{now}
 use Rattle.base.specs.Words.{at}
-use Rattle.interties.specs.Pairs.{atPair}
+use Rattle.intertie_shares.specs.Pairs.{atPair}
 use Rattle.state.specs.Layout.{place}
 use Rattle.closing.proofs.TableLaws.{Rows, rows-none, rows-next}
 use Rattle.closing.proofs.tables.read_pairs.Statement.{statement}
@@ -25,12 +25,6 @@ abbrev μ-loop : tie.MeasureT-loop
 loop-holds : tie.Need-loop-holds Inv-loop μ-loop
 loop-holds c = (search needs, rows-none _ _ _)
 
-add-read-row : tie.Need-add-read-row Inv-loop μ-loop
-add-read-row c = search needs
-
-mul-read-row : tie.Need-mul-read-row Inv-loop μ-loop
-mul-read-row c = search needs
-
 read-row-requires : tie.Need-read-row-requires Inv-loop μ-loop
 read-row-requires c κs =
     let a = c .before .before .before .before .before .args in
@@ -42,12 +36,6 @@ read-row-requires c κs =
       p .3,
       omega (arith, r .size),
     )
-
-add-holder : tie.Need-add-holder Inv-loop μ-loop
-add-holder c = search needs
-
-loop-less : tie.Need-loop-less Inv-loop μ-loop
-loop-less c = search needs
 
 loop-again : tie.Need-loop-again Inv-loop μ-loop
 loop-again c =
@@ -74,11 +62,11 @@ read-pairs-spec =
     Inv-loop
     μ-loop
     loop-holds
-    add-read-row
-    mul-read-row
+    (λ c. search needs)
+    (λ c. search needs)
     read-row-requires
-    add-holder
-    loop-less
+    (λ c. search needs)
+    (λ c. search needs)
     loop-again
     same-length
     returns)

@@ -24,38 +24,11 @@ Inv-loop state row count table₀ to first column₀ table column =
 abbrev μ-loop : tie.MeasureT-loop
 μ-loop state row count table₀ to first column₀ table column = count - column
 
-mul-first : tie.Need-mul-first Inv-loop μ-loop
-mul-first c = search needs
-
 loop-holds : tie.Need-loop-holds Inv-loop μ-loop
 loop-holds c = (search needs, refl, fillFrom-none _ _ _)
 
-add-table : tie.Need-add-table Inv-loop μ-loop
-add-table c = search needs
-
-mul-table : tie.Need-mul-table Inv-loop μ-loop
-mul-table c = search needs
-
-shared-slice-read-table : tie.Need-shared-slice-read-table Inv-loop μ-loop
-shared-slice-read-table c = search needs
-
 cast-table : tie.Need-cast-table Inv-loop μ-loop
 cast-table c = omega (arith, c .shared-slice-known .given (48 * c .before .before .before .args .row + c .before .before .loop .column))
-
-add-table-2 : tie.Need-add-table-2 Inv-loop μ-loop
-add-table-2 c = search needs
-
-mul-table-2 : tie.Need-mul-table-2 Inv-loop μ-loop
-mul-table-2 c = search needs
-
-slice-write-table : tie.Need-slice-write-table Inv-loop μ-loop
-slice-write-table c = search needs
-
-add-column : tie.Need-add-column Inv-loop μ-loop
-add-column c = search needs
-
-loop-less : tie.Need-loop-less Inv-loop μ-loop
-loop-less c = search needs
 
 loop-again : tie.Need-loop-again Inv-loop μ-loop
 loop-again c =
@@ -80,17 +53,17 @@ read-row-spec =
     (tie.spec
     Inv-loop
     μ-loop
-    mul-first
+    (λ c. search needs)
     loop-holds
-    add-table
-    mul-table
-    shared-slice-read-table
+    (λ c. search needs)
+    (λ c. search needs)
+    (λ c. search needs)
     cast-table
-    add-table-2
-    mul-table-2
-    slice-write-table
-    add-column
-    loop-less
+    (λ c. search needs)
+    (λ c. search needs)
+    (λ c. search needs)
+    (λ c. search needs)
+    (λ c. search needs)
     loop-again
     same-length
     returns)

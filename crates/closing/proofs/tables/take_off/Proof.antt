@@ -26,21 +26,6 @@ abbrev μ-loop : tie.MeasureT-loop
 loop-holds : tie.Need-loop-holds Inv-loop μ-loop
 loop-holds c = (search needs, refl, sym (fill-zero _ _))
 
-add-row : tie.Need-add-row Inv-loop μ-loop
-add-row c = search needs
-
-mul-row : tie.Need-mul-row Inv-loop μ-loop
-mul-row c = search needs
-
-shared-slice-read-row : tie.Need-shared-slice-read-row Inv-loop μ-loop
-shared-slice-read-row c = search needs
-
-mul-row-2 : tie.Need-mul-row-2 Inv-loop μ-loop
-mul-row-2 c = search needs
-
-slice-read-row : tie.Need-slice-read-row Inv-loop μ-loop
-slice-read-row c = search needs
-
 sub-row : tie.Need-sub-row Inv-loop μ-loop
 sub-row c =
     let s = c .before .before .before .before in
@@ -50,15 +35,6 @@ sub-row c =
       s .pre .2 (l .c) (c .before .before .loop-test .taken),
       fill-place (l .c) (word (now (s .args .table)) (s .args .from) (now (s .args .row))) (now (s .args .row)) (l .inv .2),
     )
-
-slice-write-row : tie.Need-slice-write-row Inv-loop μ-loop
-slice-write-row c = search needs
-
-add-c : tie.Need-add-c Inv-loop μ-loop
-add-c c = search needs
-
-loop-less : tie.Need-loop-less Inv-loop μ-loop
-loop-less c = search needs
 
 loop-again : tie.Need-loop-again Inv-loop μ-loop
 loop-again c =
@@ -85,15 +61,15 @@ take-off-spec =
     Inv-loop
     μ-loop
     loop-holds
-    add-row
-    mul-row
-    shared-slice-read-row
-    mul-row-2
-    slice-read-row
+    (λ c. search needs)
+    (λ c. search needs)
+    (λ c. search needs)
+    (λ c. search needs)
+    (λ c. search needs)
     sub-row
-    slice-write-row
-    add-c
-    loop-less
+    (λ c. search needs)
+    (λ c. search needs)
+    (λ c. search needs)
     loop-again
     same-length
     returns)

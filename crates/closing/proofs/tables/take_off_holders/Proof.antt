@@ -5,7 +5,7 @@ use native.Mathlib.Omega.{arith}
 use denote.Ref.{now}
 use Rattle.base.specs.Sums.{sumTo}
 use Rattle.base.specs.Words.{at}
-use Rattle.interties.specs.Pairs.{atPair}
+use Rattle.intertie_shares.specs.Pairs.{atPair}
 use Rattle.closing.proofs.TableLaws.{Lowered, lowered-none, lowered-next, next-within}
 use Rattle.closing.proofs.tables.take_off_holders.Statement.{statement}
 use Rattle.closing.proofs.tables.take_off_holders.Tie as tie
@@ -19,9 +19,6 @@ abbrev μ-loop : tie.MeasureT-loop
 
 loop-holds : tie.Need-loop-holds Inv-loop μ-loop
 loop-holds c = (search needs, lowered-none _ _ _)
-
-mul-take-off : tie.Need-mul-take-off Inv-loop μ-loop
-mul-take-off c = search needs
 
 take-off-requires : tie.Need-take-off-requires Inv-loop μ-loop
 take-off-requires c κs =
@@ -37,12 +34,6 @@ take-off-requires c κs =
             next-within (at (now (s .args .row)) i) (s .args .holders) m (λ h. atPair (now (s .args .table)) h i) (s .pre .4 i l) (c .before .loop-test .taken),
           ),
     )
-
-add-holder : tie.Need-add-holder Inv-loop μ-loop
-add-holder c = search needs
-
-loop-less : tie.Need-loop-less Inv-loop μ-loop
-loop-less c = search needs
 
 loop-again : tie.Need-loop-again Inv-loop μ-loop
 loop-again c =
@@ -67,10 +58,10 @@ take-off-holders-spec =
     Inv-loop
     μ-loop
     loop-holds
-    mul-take-off
+    (λ c. search needs)
     take-off-requires
-    add-holder
-    loop-less
+    (λ c. search needs)
+    (λ c. search needs)
     loop-again
     same-length
     returns)

@@ -9,15 +9,6 @@ use borrow.Author.Needs.{needs}
 use Rattle.closing.proofs.weights.average_load.Statement.{statement}
 use Rattle.closing.proofs.weights.average_load.Tie as tie
 
-word-requires : tie.Need-word-requires
-word-requires c κs = search needs
-
-word-requires-2 : tie.Need-word-requires-2
-word-requires-2 c κs = search needs
-
-seller-count-requires : tie.Need-seller-count-requires
-seller-count-requires c κs = search needs
-
 returns : tie.Need-returns
 returns c =
     let a = c .before .before .before .before .before .args in
@@ -29,9 +20,6 @@ sellers-load-requires c κs =
     let o = refusal-none _ (c .before .before .before .before .before .pre .0 .fit) in
     (o .0, omega (arith, c .before .before .before .word .ensures, o .1 .holders-most))
 
-div-result : tie.Need-div-result
-div-result c = search needs
-
 returns-2 : tie.Need-returns-2
 returns-2 c =
     let a = c .before .before .before .before .before .before .args in
@@ -42,10 +30,10 @@ pub average-load-spec : {M : Type 1} → statement M
 average-load-spec =
     tie.close
     (tie.spec
-    word-requires
-    word-requires-2
-    seller-count-requires
+    (λ c κs. search needs)
+    (λ c κs. search needs)
+    (λ c κs. search needs)
     returns
     sellers-load-requires
-    div-result
+    (λ c. search needs)
     returns-2)

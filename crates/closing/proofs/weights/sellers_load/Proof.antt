@@ -24,40 +24,13 @@ Inv-loop state sellers holders first load₀ holder₀ load holder =
 abbrev μ-loop : tie.MeasureT-loop
 μ-loop state sellers holders first load₀ holder₀ load holder = holders - holder
 
-cast-first : tie.Need-cast-first Inv-loop μ-loop
-cast-first c = search needs
-
-mul-first : tie.Need-mul-first Inv-loop μ-loop
-mul-first c = search needs
-
 loop-holds : tie.Need-loop-holds Inv-loop μ-loop
 loop-holds c = (search needs, search needs, sym (sumTo-zero _))
-
-cast-load-if-seller : tie.Need-cast-load-if-seller Inv-loop μ-loop
-cast-load-if-seller c = search needs
-
-add-load-if-seller : tie.Need-add-load-if-seller Inv-loop μ-loop
-add-load-if-seller c = search needs
-
-mul-load-if-seller : tie.Need-mul-load-if-seller Inv-loop μ-loop
-mul-load-if-seller c = search needs
-
-shared-slice-read-load-if-seller : tie.Need-shared-slice-read-load-if-seller Inv-loop μ-loop
-shared-slice-read-load-if-seller c = search needs
-
-load-if-seller-requires : tie.Need-load-if-seller-requires Inv-loop μ-loop
-load-if-seller-requires c κs = search needs
 
 add-load : tie.Need-add-load Inv-loop μ-loop
 add-load c =
     let j = c .before .before .before .loop .holder in
     omega (arith, c .before .shared-slice-known2 .given (144 + j))
-
-add-holder : tie.Need-add-holder Inv-loop μ-loop
-add-holder c = search needs
-
-loop-less : tie.Need-loop-less Inv-loop μ-loop
-loop-less c = search needs
 
 loop-again : tie.Need-loop-again Inv-loop μ-loop
 loop-again c =
@@ -79,16 +52,16 @@ sellers-load-spec =
     (tie.spec
     Inv-loop
     μ-loop
-    cast-first
-    mul-first
+    (λ c. search needs)
+    (λ c. search needs)
     loop-holds
-    cast-load-if-seller
-    add-load-if-seller
-    mul-load-if-seller
-    shared-slice-read-load-if-seller
-    load-if-seller-requires
+    (λ c. search needs)
+    (λ c. search needs)
+    (λ c. search needs)
+    (λ c. search needs)
+    (λ c κs. search needs)
     add-load
-    add-holder
-    loop-less
+    (λ c. search needs)
+    (λ c. search needs)
     loop-again
     returns)

@@ -20,31 +20,13 @@ Inv-loop state weights₀ holders holder₀ weights holder =
 abbrev μ-loop : tie.MeasureT-loop
 μ-loop state weights₀ holders holder₀ weights holder = holders - holder
 
-word-requires : tie.Need-word-requires Inv-loop μ-loop
-word-requires c κs = search needs
-
 loop-holds : tie.Need-loop-holds Inv-loop μ-loop
 loop-holds c = (search needs, refl, sym (fill-zero _ _))
-
-weight-requires : tie.Need-weight-requires Inv-loop μ-loop
-weight-requires c κs = search needs
-
-cast-weights : tie.Need-cast-weights Inv-loop μ-loop
-cast-weights c = search needs
-
-mul-weights : tie.Need-mul-weights Inv-loop μ-loop
-mul-weights c = search needs
 
 slice-write-weights : tie.Need-slice-write-weights Inv-loop μ-loop
 slice-write-weights c =
     let o = refusal-none _ (c .before .before .before .before .before .before .pre .0 .fit) .1 in
     omega (arith, o .holders-most, c .before .before .before .word .ensures, c .before .before .loop .inv .1, c .before .before .before .before .before .before .pre .1)
-
-add-holder : tie.Need-add-holder Inv-loop μ-loop
-add-holder c = search needs
-
-loop-less : tie.Need-loop-less Inv-loop μ-loop
-loop-less c = search needs
 
 loop-again : tie.Need-loop-again Inv-loop μ-loop
 loop-again c =
@@ -69,14 +51,14 @@ weigh-spec =
     (tie.spec
     Inv-loop
     μ-loop
-    word-requires
+    (λ c κs. search needs)
     loop-holds
-    weight-requires
-    cast-weights
-    mul-weights
+    (λ c κs. search needs)
+    (λ c. search needs)
+    (λ c. search needs)
     slice-write-weights
-    add-holder
-    loop-less
+    (λ c. search needs)
+    (λ c. search needs)
     loop-again
     same-length
     returns)

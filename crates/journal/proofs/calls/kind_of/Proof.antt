@@ -5,61 +5,25 @@ use borrow.Author.Needs.{needs}
 use Rattle.journal.proofs.calls.kind_of.Statement.{statement}
 use Rattle.journal.proofs.calls.kind_of.Tie as tie
 
-slice-aggregate-same : tie.Need-slice-aggregate-same
-slice-aggregate-same c = search needs
-
-same-requires : tie.Need-same-requires
-same-requires c κs = search needs
-
 returns : tie.Need-returns
 unfolding kindOf
 returns c = search choices depth 8
-
-slice-aggregate-same-2 : tie.Need-slice-aggregate-same-2
-slice-aggregate-same-2 c = search needs
-
-same-requires-2 : tie.Need-same-requires-2
-same-requires-2 c κs = search needs
 
 returns-2 : tie.Need-returns-2
 unfolding kindOf
 returns-2 c = search choices depth 8
 
-slice-aggregate-same-3 : tie.Need-slice-aggregate-same-3
-slice-aggregate-same-3 c = search needs
-
-same-requires-3 : tie.Need-same-requires-3
-same-requires-3 c κs = search needs
-
 returns-3 : tie.Need-returns-3
 unfolding kindOf
 returns-3 c = search choices depth 8
-
-slice-aggregate-same-4 : tie.Need-slice-aggregate-same-4
-slice-aggregate-same-4 c = search needs
-
-same-requires-4 : tie.Need-same-requires-4
-same-requires-4 c κs = search needs
 
 returns-4 : tie.Need-returns-4
 unfolding kindOf
 returns-4 c = search choices depth 8
 
-slice-aggregate-same-5 : tie.Need-slice-aggregate-same-5
-slice-aggregate-same-5 c = search needs
-
-same-requires-5 : tie.Need-same-requires-5
-same-requires-5 c κs = search needs
-
 returns-5 : tie.Need-returns-5
 unfolding kindOf
 returns-5 c = search choices depth 8
-
-slice-aggregate-same-6 : tie.Need-slice-aggregate-same-6
-slice-aggregate-same-6 c = search needs
-
-same-requires-6 : tie.Need-same-requires-6
-same-requires-6 c κs = search needs
 
 returns-6 : tie.Need-returns-6
 unfolding kindOf
@@ -73,22 +37,22 @@ pub kind-of-spec : {M : Type 1} → statement M
 kind-of-spec =
     tie.close
     (tie.spec
-    slice-aggregate-same
-    same-requires
+    (λ c. search needs)
+    (λ c κs. search needs)
     returns
-    slice-aggregate-same-2
-    same-requires-2
+    (λ c. search needs)
+    (λ c κs. search needs)
     returns-2
-    slice-aggregate-same-3
-    same-requires-3
+    (λ c. search needs)
+    (λ c κs. search needs)
     returns-3
-    slice-aggregate-same-4
-    same-requires-4
+    (λ c. search needs)
+    (λ c κs. search needs)
     returns-4
-    slice-aggregate-same-5
-    same-requires-5
+    (λ c. search needs)
+    (λ c κs. search needs)
     returns-5
-    slice-aggregate-same-6
-    same-requires-6
+    (λ c. search needs)
+    (λ c κs. search needs)
     returns-6
     returns-7)

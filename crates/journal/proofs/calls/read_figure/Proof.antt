@@ -6,18 +6,6 @@ use Rattle.journal.proofs.calls.read_figure.Statement.{statement}
 use Rattle.journal.proofs.calls.read_figure.Tie as tie
 use Rattle.text.proofs.read_number.Reads as read-number-reads
 
-read-number-requires : tie.Need-read-number-requires
-read-number-requires c κs = search needs
-
-enum-known-value : tie.Need-enum-known-value
-enum-known-value c = search needs
-
-enum-told : tie.Need-enum-told
-enum-told c = search needs
-
-enum-told-2 : tie.Need-enum-told-2
-enum-told-2 c = search needs
-
 returns : tie.Need-returns
 returns c = ap figureOf (sym (c .before .value .given .1) ∙ c .before .before .before .read-number .ensures)
 
@@ -31,10 +19,10 @@ pub read-figure-spec : {M : Type 1} → statement M
 read-figure-spec =
     tie.close
     (tie.spec
-    read-number-requires
-    enum-known-value
-    enum-told
-    enum-told-2
+    (λ c κs. search needs)
+    (λ c. search needs)
+    (λ c. search needs)
+    (λ c. search needs)
     returns
     returns-2
     returns-3)

@@ -15,50 +15,20 @@ use Rattle.journal.proofs.calls.kind_of.Reads as kind-of-reads
 use Rattle.journal.proofs.calls.read_call.Reads as read-call-reads
 use Rattle.journal.proofs.words.next_word.Reads as next-word-reads
 
-next-word-requires : tie.Need-next-word-requires
-next-word-requires c κs = search needs
-
 returns : tie.Need-returns
 returns c =
     let a = c .before .before .before .args in
     let w = c .before .next-word .ensures in
     line-blank (now (a .line)) (words-last (now (a .line)) 0 _ _ (w .start-is) (w .end-is) zero-le (omega arith))
 
-shared-slice-read-if2 : tie.Need-shared-slice-read-if2
-shared-slice-read-if2 c = search needs
-
 returns-2 : tie.Need-returns-2
 returns-2 c = line-comment (now (c .before .before .before .before .before .args .line)) (c .if2 .taken)
-
-sub-kind-of : tie.Need-sub-kind-of
-sub-kind-of c = search needs
-
-part-kind-of-start : tie.Need-part-kind-of-start
-part-kind-of-start c = search needs
-
-part-kind-of-end : tie.Need-part-kind-of-end
-part-kind-of-end c = search needs
-
-kind-of-requires : tie.Need-kind-of-requires
-kind-of-requires c κs = search needs
 
 returns-3 : tie.Need-returns-3
 returns-3 c =
     let a = c .before .before .before .before .before .before .before .before .args in
     let w = c .before .before .before .before .before .before .next-word .ensures in
     line-unknown (now (a .line)) (c .before .before .before .if2 .left) _ _ (words-first (now (a .line)) 0 _ _ (w .start-is) (w .end-is) (omega (arith, w .in-order, w .within, c .before .before .before .before .before .if1 .left))) _ (c .before .kind-of .ensures) (c .if3 .taken)
-
-sub-read-call : tie.Need-sub-read-call
-sub-read-call c = search needs
-
-part-read-call-start : tie.Need-part-read-call-start
-part-read-call-start c = search needs
-
-part-read-call-end : tie.Need-part-read-call-end
-part-read-call-end c = search needs
-
-read-call-requires : tie.Need-read-call-requires
-read-call-requires c κs = search needs
 
 returns-4 : tie.Need-returns-4
 returns-4 c =
@@ -71,17 +41,17 @@ pub read-line-spec : {M : Type 1} → statement M
 read-line-spec =
     tie.close
     (tie.spec
-    next-word-requires
+    (λ c κs. search needs)
     returns
-    shared-slice-read-if2
+    (λ c. search needs)
     returns-2
-    sub-kind-of
-    part-kind-of-start
-    part-kind-of-end
-    kind-of-requires
+    (λ c. search needs)
+    (λ c. search needs)
+    (λ c. search needs)
+    (λ c κs. search needs)
     returns-3
-    sub-read-call
-    part-read-call-start
-    part-read-call-end
-    read-call-requires
+    (λ c. search needs)
+    (λ c. search needs)
+    (λ c. search needs)
+    (λ c κs. search needs)
     returns-4)

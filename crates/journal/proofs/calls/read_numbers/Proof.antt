@@ -33,39 +33,12 @@ loop-holds c =
     let b = reading-begins (now (a .rest)) (a .wanted) (now (a .numbers)) in
     (search needs, search needs, b .0, b .1)
 
-next-word-requires : tie.Need-next-word-requires Inv-loop μ-loop
-next-word-requires c κs = search needs
-
-sub-read-figure : tie.Need-sub-read-figure Inv-loop μ-loop
-sub-read-figure c = search needs
-
-part-read-figure-start : tie.Need-part-read-figure-start Inv-loop μ-loop
-part-read-figure-start c = search needs
-
-part-read-figure-end : tie.Need-part-read-figure-end Inv-loop μ-loop
-part-read-figure-end c = search needs
-
-read-figure-requires : tie.Need-read-figure-requires Inv-loop μ-loop
-read-figure-requires c κs = search needs
-
 returns : tie.Need-returns Inv-loop μ-loop
 returns c =
     let a = c .before .before .before .before .before .before .before .before .args in
     let t = c .before .before .before .before .before .before .loop in
     let w = c .before .before .before .before .next-word .ensures in
     reading-stops (now (a .rest)) (t .at) _ _ (w .start-is) (w .end-is) (t .inv .1) (a .wanted) (t .k) (search needs) (numbersOf (a .wanted) (words (now (a .rest)))) (now (a .numbers)) (t .numbers) (t .inv .2) (t .inv .3) _ (c .before .before .read-figure .ensures) (c .if1 .taken)
-
-mul-numbers : tie.Need-mul-numbers Inv-loop μ-loop
-mul-numbers c = search needs
-
-element-write-numbers : tie.Need-element-write-numbers Inv-loop μ-loop
-element-write-numbers c = search needs
-
-add-k : tie.Need-add-k Inv-loop μ-loop
-add-k c = search needs
-
-loop-less : tie.Need-loop-less Inv-loop μ-loop
-loop-less c = search needs
 
 loop-again : tie.Need-loop-again Inv-loop μ-loop
 loop-again c =
@@ -74,18 +47,6 @@ loop-again c =
     let w = c .before .before .before .before .next-word .ensures in
     let turn = reading-turn (now (a .rest)) (t .at) _ _ (w .start-is) (w .end-is) (t .inv .1) (a .wanted) (t .k) (search needs) (numbersOf (a .wanted) (words (now (a .rest)))) (now (a .numbers)) (t .numbers) (t .inv .2) (t .inv .3) _ (c .before .before .read-figure .ensures) (c .if1 .left) in
     (search needs, w .within, turn .0, turn .1)
-
-sub-last-fault : tie.Need-sub-last-fault Inv-loop μ-loop
-sub-last-fault c = search needs
-
-part-last-fault-start : tie.Need-part-last-fault-start Inv-loop μ-loop
-part-last-fault-start c = search needs
-
-part-last-fault-end : tie.Need-part-last-fault-end Inv-loop μ-loop
-part-last-fault-end c = search needs
-
-last-fault-requires : tie.Need-last-fault-requires Inv-loop μ-loop
-last-fault-requires c κs = search needs
 
 returns-2 : tie.Need-returns-2 Inv-loop μ-loop
 returns-2 c =
@@ -100,19 +61,19 @@ read-numbers-spec =
     Inv-loop
     μ-loop
     loop-holds
-    next-word-requires
-    sub-read-figure
-    part-read-figure-start
-    part-read-figure-end
-    read-figure-requires
+    (λ c κs. search needs)
+    (λ c. search needs)
+    (λ c. search needs)
+    (λ c. search needs)
+    (λ c κs. search needs)
     returns
-    mul-numbers
-    element-write-numbers
-    add-k
-    loop-less
+    (λ c. search needs)
+    (λ c. search needs)
+    (λ c. search needs)
+    (λ c. search needs)
     loop-again
-    sub-last-fault
-    part-last-fault-start
-    part-last-fault-end
-    last-fault-requires
+    (λ c. search needs)
+    (λ c. search needs)
+    (λ c. search needs)
+    (λ c κs. search needs)
     returns-2)

@@ -26,32 +26,11 @@ abbrev μ-loop : tie.MeasureT-loop
 loop-holds : tie.Need-loop-holds Inv-loop μ-loop
 loop-holds c = (search needs, search needs, search needs, refl)
 
-line-end-requires : tie.Need-line-end-requires Inv-loop μ-loop
-line-end-requires c κs = search needs
-
-sub-read-line : tie.Need-sub-read-line Inv-loop μ-loop
-sub-read-line c = search needs
-
-part-read-line-start : tie.Need-part-read-line-start Inv-loop μ-loop
-part-read-line-start c = search needs
-
-part-read-line-end : tie.Need-part-read-line-end Inv-loop μ-loop
-part-read-line-end c = search needs
-
-read-line-requires : tie.Need-read-line-requires Inv-loop μ-loop
-read-line-requires c κs = search needs
-
-fault-in-requires : tie.Need-fault-in-requires Inv-loop μ-loop
-fault-in-requires c κs = search needs
-
 returns : tie.Need-returns Inv-loop μ-loop
 returns c =
     let a = c .before .before .before .before .before .before .before .args in
     let t = c .before .before .before .before .before .loop in
     check-stops (a .room) (now (a .text)) (t .at) (t .number) (t .count) _ (t .inv .3) _ (t .inv .0) (c .before .before .before .before .line-end .ensures .0) _ (c .before .before .read-line .ensures) _ (c .before .fault-in .ensures) (c .if1 .taken)
-
-calls-in-requires : tie.Need-calls-in-requires Inv-loop μ-loop
-calls-in-requires c κs = search needs
 
 add-count : tie.Need-add-count Inv-loop μ-loop
 add-count c =
@@ -64,15 +43,6 @@ returns-2 c =
     let a = c .before .before .before .before .before .before .before .before .before .args in
     let t = c .before .before .before .before .before .before .before .loop in
     check-ends (a .room) (now (a .text)) (t .at) (t .number) (t .count) _ (t .inv .3) _ (t .inv .0) (c .before .before .before .before .before .before .line-end .ensures .0) _ (c .before .before .before .before .read-line .ensures) _ (c .before .before .before .fault-in .ensures) (c .before .before .if1 .left) _ (c .before .calls-in .ensures) (c .if2 .taken)
-
-add-at : tie.Need-add-at Inv-loop μ-loop
-add-at c = search needs
-
-add-number : tie.Need-add-number Inv-loop μ-loop
-add-number c = search needs
-
-loop-less : tie.Need-loop-less Inv-loop μ-loop
-loop-less c = search needs
 
 loop-again : tie.Need-loop-again Inv-loop μ-loop
 loop-again c =
@@ -93,17 +63,17 @@ check-spec =
     Inv-loop
     μ-loop
     loop-holds
-    line-end-requires
-    sub-read-line
-    part-read-line-start
-    part-read-line-end
-    read-line-requires
-    fault-in-requires
+    (λ c κs. search needs)
+    (λ c. search needs)
+    (λ c. search needs)
+    (λ c. search needs)
+    (λ c κs. search needs)
+    (λ c κs. search needs)
     returns
-    calls-in-requires
+    (λ c κs. search needs)
     add-count
     returns-2
-    add-at
-    add-number
-    loop-less
+    (λ c. search needs)
+    (λ c. search needs)
+    (λ c. search needs)
     loop-again)

@@ -5,18 +5,6 @@ use borrow.Author.Needs.{needs}
 use Rattle.journal.proofs.lines.line_end.Statement.{statement}
 use Rattle.journal.proofs.lines.line_end.Tie as tie
 
-sub-before : tie.Need-sub-before
-sub-before c = search needs
-
-part-before-start : tie.Need-part-before-start
-part-before-start c = search needs
-
-part-before-end : tie.Need-part-before-end
-part-before-end c = search needs
-
-before-requires : tie.Need-before-requires
-before-requires c κs = search needs
-
 add-result : tie.Need-add-result
 add-result c =
     let a = c .before .before .before .args in
@@ -31,4 +19,4 @@ returns c =
 pub line-end-spec : {M : Type 1} → statement M
 line-end-spec =
     tie.close
-    (tie.spec sub-before part-before-start part-before-end before-requires add-result returns)
+    (tie.spec (λ c. search needs) (λ c. search needs) (λ c. search needs) (λ c κs. search needs) add-result returns)

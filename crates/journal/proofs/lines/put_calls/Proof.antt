@@ -27,21 +27,6 @@ abbrev μ-loop : tie.MeasureT-loop
 loop-holds : tie.Need-loop-holds Inv-loop μ-loop
 loop-holds c = (search needs, refl, search needs, refl)
 
-line-end-requires : tie.Need-line-end-requires Inv-loop μ-loop
-line-end-requires c κs = search needs
-
-sub-read-line : tie.Need-sub-read-line Inv-loop μ-loop
-sub-read-line c = search needs
-
-part-read-line-start : tie.Need-part-read-line-start Inv-loop μ-loop
-part-read-line-start c = search needs
-
-part-read-line-end : tie.Need-part-read-line-end Inv-loop μ-loop
-part-read-line-end c = search needs
-
-read-line-requires : tie.Need-read-line-requires Inv-loop μ-loop
-read-line-requires c κs = search needs
-
 put-line-requires : tie.Need-put-line-requires Inv-loop μ-loop
 put-line-requires c κs =
     let a = c .before .before .before .before .before .before .before .args in
@@ -49,20 +34,11 @@ put-line-requires c κs =
     let fit = words-fit (now (a .text)) (t .at) (t .place) (callWords (linesOf (now (a .text)))) (now (a .calls)) (t .calls) (t .inv .2) (t .inv .3) _ (t .inv .0) (c .before .before .before .line-end .ensures .0) _ (c .before .read-line .ensures) in
     omega (arith, fit, t .inv .1)
 
-same-length : tie.Need-same-length Inv-loop μ-loop
-same-length c = search needs
-
 returns : tie.Need-returns Inv-loop μ-loop
 returns c =
     let a = c .before .before .before .before .before .before .before .before .before .before .before .args in
     let t = c .before .before .before .before .before .before .before .before .loop in
     put-ends (now (a .text)) (t .at) (t .place) (callWords (linesOf (now (a .text)))) (now (a .calls)) (t .calls) (t .inv .2) (t .inv .3) _ (t .inv .0) (c .before .before .before .before .before .before .before .line-end .ensures .0) _ (c .before .before .before .before .before .read-line .ensures) _ _ (c .before .before .before .put-line .ensures .0) (c .before .before .before .put-line .ensures .1) (c .if1 .taken)
-
-add-at : tie.Need-add-at Inv-loop μ-loop
-add-at c = search needs
-
-loop-less : tie.Need-loop-less Inv-loop μ-loop
-loop-less c = search needs
 
 loop-again : tie.Need-loop-again Inv-loop μ-loop
 loop-again c =
@@ -78,14 +54,14 @@ put-calls-spec =
     Inv-loop
     μ-loop
     loop-holds
-    line-end-requires
-    sub-read-line
-    part-read-line-start
-    part-read-line-end
-    read-line-requires
+    (λ c κs. search needs)
+    (λ c. search needs)
+    (λ c. search needs)
+    (λ c. search needs)
+    (λ c κs. search needs)
     put-line-requires
-    same-length
+    (λ c. search needs)
     returns
-    add-at
-    loop-less
+    (λ c. search needs)
+    (λ c. search needs)
     loop-again)

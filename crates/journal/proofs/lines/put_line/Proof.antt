@@ -9,15 +9,6 @@ use borrow.Author.Needs.{needs}
 use Rattle.journal.proofs.lines.put_line.Statement.{statement}
 use Rattle.journal.proofs.lines.put_line.Tie as tie
 
-enum-told : tie.Need-enum-told
-enum-told c = search needs
-
-enum-known-line : tie.Need-enum-known-line
-enum-known-line c = search needs
-
-mul-calls : tie.Need-mul-calls
-mul-calls c = search needs
-
 slice-write-calls : tie.Need-slice-write-calls
 slice-write-calls c =
     let six = length-good (c .before .before .before .args .line) _ (c .before .line .given .1) in
@@ -27,9 +18,6 @@ add-calls : tie.Need-add-calls
 add-calls c =
     let six = length-good (c .before .before .before .args .line) _ (c .before .line .given .1) in
     search needs
-
-mul-calls-2 : tie.Need-mul-calls-2
-mul-calls-2 c = search needs
 
 slice-write-calls-2 : tie.Need-slice-write-calls-2
 slice-write-calls-2 c =
@@ -41,9 +29,6 @@ add-calls-2 c =
     let six = length-good (c .before .before .before .args .line) _ (c .before .line .given .1) in
     search needs
 
-mul-calls-3 : tie.Need-mul-calls-3
-mul-calls-3 c = search needs
-
 slice-write-calls-3 : tie.Need-slice-write-calls-3
 slice-write-calls-3 c =
     let six = length-good (c .before .before .before .args .line) _ (c .before .line .given .1) in
@@ -53,9 +38,6 @@ add-calls-3 : tie.Need-add-calls-3
 add-calls-3 c =
     let six = length-good (c .before .before .before .args .line) _ (c .before .line .given .1) in
     search needs
-
-mul-calls-4 : tie.Need-mul-calls-4
-mul-calls-4 c = search needs
 
 slice-write-calls-4 : tie.Need-slice-write-calls-4
 slice-write-calls-4 c =
@@ -67,9 +49,6 @@ add-calls-4 c =
     let six = length-good (c .before .before .before .args .line) _ (c .before .line .given .1) in
     search needs
 
-mul-calls-5 : tie.Need-mul-calls-5
-mul-calls-5 c = search needs
-
 slice-write-calls-5 : tie.Need-slice-write-calls-5
 slice-write-calls-5 c =
     let six = length-good (c .before .before .before .args .line) _ (c .before .line .given .1) in
@@ -79,9 +58,6 @@ add-calls-5 : tie.Need-add-calls-5
 add-calls-5 c =
     let six = length-good (c .before .before .before .args .line) _ (c .before .line .given .1) in
     search needs
-
-mul-calls-6 : tie.Need-mul-calls-6
-mul-calls-6 c = search needs
 
 slice-write-calls-6 : tie.Need-slice-write-calls-6
 slice-write-calls-6 c =
@@ -93,14 +69,8 @@ add-result c =
     let six = length-good (c .before .before .before .args .line) _ (c .before .line .given .1) in
     search needs
 
-enum-told-2 : tie.Need-enum-told-2
-enum-told-2 c = search needs
-
 returns : tie.Need-returns
 returns c = none-put (c .before .before .args .line) (c .before .before .args .place) (now (c .before .before .args .calls)) (ap wordsIn (c .enum-told .given .1))
-
-same-length : tie.Need-same-length
-same-length c = search needs
 
 returns-2 : tie.Need-returns-2
 returns-2 c = call-put (c .before .before .before .args .line) _ (c .before .before .before .args .place) (now (c .before .before .before .args .calls)) (c .before .line .given .1)
@@ -112,28 +82,28 @@ pub put-line-spec : {M : Type 1} → statement M
 put-line-spec =
     tie.close
     (tie.spec
-    enum-told
-    enum-known-line
-    mul-calls
+    (λ c. search needs)
+    (λ c. search needs)
+    (λ c. search needs)
     slice-write-calls
     add-calls
-    mul-calls-2
+    (λ c. search needs)
     slice-write-calls-2
     add-calls-2
-    mul-calls-3
+    (λ c. search needs)
     slice-write-calls-3
     add-calls-3
-    mul-calls-4
+    (λ c. search needs)
     slice-write-calls-4
     add-calls-4
-    mul-calls-5
+    (λ c. search needs)
     slice-write-calls-5
     add-calls-5
-    mul-calls-6
+    (λ c. search needs)
     slice-write-calls-6
     add-result
-    enum-told-2
+    (λ c. search needs)
     returns
-    same-length
+    (λ c. search needs)
     returns-2
     returns-3)

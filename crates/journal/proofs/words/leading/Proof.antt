@@ -19,23 +19,11 @@ abbrev μ-loop : tie.MeasureT-loop
 loop-holds : tie.Need-loop-holds Inv-loop μ-loop
 loop-holds c = (search needs, omega arith)
 
-shared-slice-read-class : tie.Need-shared-slice-read-class Inv-loop μ-loop
-shared-slice-read-class c = search needs
-
-class-requires : tie.Need-class-requires Inv-loop μ-loop
-class-requires c κs = search needs
-
 returns : tie.Need-returns Inv-loop μ-loop
 returns c =
     let a = c .before .before .before .before .before .before .args in
     let t = c .before .before .before .before .loop in
     leading-found (a .k) (now (a .line)) (t .i) (t .inv .1) (search needs) (λ e. c .if1 .taken (c .before .class .ensures ∙ e))
-
-add-i : tie.Need-add-i Inv-loop μ-loop
-add-i c = search needs
-
-loop-less : tie.Need-loop-less Inv-loop μ-loop
-loop-less c = search needs
 
 loop-again : tie.Need-loop-again Inv-loop μ-loop
 loop-again c =
@@ -56,10 +44,10 @@ leading-spec =
     Inv-loop
     μ-loop
     loop-holds
-    shared-slice-read-class
-    class-requires
+    (λ c. search needs)
+    (λ c κs. search needs)
     returns
-    add-i
-    loop-less
+    (λ c. search needs)
+    (λ c. search needs)
     loop-again
     returns-2)

@@ -7,18 +7,6 @@ use borrow.Author.Needs.{needs}
 use Rattle.journal.proofs.words.next_word.Statement.{statement}
 use Rattle.journal.proofs.words.next_word.Tie as tie
 
-sub-leading : tie.Need-sub-leading
-sub-leading c = search needs
-
-part-leading-start : tie.Need-part-leading-start
-part-leading-start c = search needs
-
-part-leading-end : tie.Need-part-leading-end
-part-leading-end c = search needs
-
-leading-requires : tie.Need-leading-requires
-leading-requires c κs = search needs
-
 add-start : tie.Need-add-start
 add-start c =
     let a = c .before .before .before .args in
@@ -43,9 +31,6 @@ part-leading-end-2 c =
     let first = part-within 1 (now (a .line)) (a .from) _ (c .leading .ensures) (c .before .before .before .pre) in
     search needs
 
-leading-requires-2 : tie.Need-leading-requires-2
-leading-requires-2 c κs = search needs
-
 add-end : tie.Need-add-end
 add-end c =
     let a = c .before .before .before .before .before .args in
@@ -69,14 +54,14 @@ pub next-word-spec : {M : Type 1} → statement M
 next-word-spec =
     tie.close
     (tie.spec
-    sub-leading
-    part-leading-start
-    part-leading-end
-    leading-requires
+    (λ c. search needs)
+    (λ c. search needs)
+    (λ c. search needs)
+    (λ c κs. search needs)
     add-start
     sub-leading-2
     part-leading-start-2
     part-leading-end-2
-    leading-requires-2
+    (λ c κs. search needs)
     add-end
     returns)

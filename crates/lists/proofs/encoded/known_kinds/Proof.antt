@@ -22,27 +22,9 @@ abbrev μ-loop : tie.MeasureT-loop
 loop-holds : tie.Need-loop-holds Inv-loop μ-loop
 loop-holds c = search (needs, allTo-zero)
 
-mul-known-kind : tie.Need-mul-known-kind Inv-loop μ-loop
-mul-known-kind c = search needs
-
-mul-known-kind-2 : tie.Need-mul-known-kind-2 Inv-loop μ-loop
-mul-known-kind-2 c = search needs
-
-shared-slice-read-known-kind : tie.Need-shared-slice-read-known-kind Inv-loop μ-loop
-shared-slice-read-known-kind c = search needs
-
-known-kind-requires : tie.Need-known-kind-requires Inv-loop μ-loop
-known-kind-requires c κs = search needs
-
 returns : tie.Need-returns Inv-loop μ-loop
 returns c =
     kind-fails (now (c .before .before .before .before .before .before .args .calls)) (c .before .before .before .before .loop .n) _ (c .before .known-kind .ensures) (c .before .before .before .before .before .before .args .count) (c .before .before .before .loop-test .taken) (not-true _ (c .if1 .taken))
-
-add-n : tie.Need-add-n Inv-loop μ-loop
-add-n c = search needs
-
-loop-less : tie.Need-loop-less Inv-loop μ-loop
-loop-less c = search needs
 
 loop-again : tie.Need-loop-again Inv-loop μ-loop
 loop-again c = (
@@ -62,12 +44,12 @@ known-kinds-spec =
     Inv-loop
     μ-loop
     loop-holds
-    mul-known-kind
-    mul-known-kind-2
-    shared-slice-read-known-kind
-    known-kind-requires
+    (λ c. search needs)
+    (λ c. search needs)
+    (λ c. search needs)
+    (λ c κs. search needs)
     returns
-    add-n
-    loop-less
+    (λ c. search needs)
+    (λ c. search needs)
     loop-again
     returns-2)

@@ -16,34 +16,10 @@ abbrev μ-loop : tie.MeasureT-loop
 loop-holds : tie.Need-loop-holds Inv-loop μ-loop
 loop-holds c = running-none (now (c .before .before .before .before .args .calls)) (now (c .before .before .before .before .args .state)) (now (c .before .before .before .before .args .grants)) (now (c .before .before .before .before .args .answers))
 
-mul-first : tie.Need-mul-first Inv-loop μ-loop
-mul-first c = search needs
-
-add-end : tie.Need-add-end Inv-loop μ-loop
-add-end c = search needs
-
-mul-run-call : tie.Need-mul-run-call Inv-loop μ-loop
-mul-run-call c = search needs
-
-sub-run-call : tie.Need-sub-run-call Inv-loop μ-loop
-sub-run-call c = search needs
-
-part-run-call-start : tie.Need-part-run-call-start Inv-loop μ-loop
-part-run-call-start c = search needs
-
-part-run-call-end : tie.Need-part-run-call-end Inv-loop μ-loop
-part-run-call-end c = search needs
-
 run-call-requires : tie.Need-run-call-requires Inv-loop μ-loop
 run-call-requires c κs =
     running-asks (now (c .before .before .before .before .before .before .before .before .before .before .args .calls)) (now (c .before .before .before .before .before .before .before .before .before .before .args .state)) (now (c .before .before .before .before .before .before .before .before .before .before .args .grants)) (now (c .before .before .before .before .before .before .before .before .before .before .args .answers))
     (c .before .before .before .before .before .loop .inv) (c .before .before .before .before .loop-test .taken) (c .before .before .before .before .before .before .before .before .before .before .pre)
-
-add-n : tie.Need-add-n Inv-loop μ-loop
-add-n c = search needs
-
-loop-less : tie.Need-loop-less Inv-loop μ-loop
-loop-less c = search needs
 
 loop-again : tie.Need-loop-again Inv-loop μ-loop
 loop-again c =
@@ -70,15 +46,15 @@ run-all-spec =
     Inv-loop
     μ-loop
     loop-holds
-    mul-first
-    add-end
-    mul-run-call
-    sub-run-call
-    part-run-call-start
-    part-run-call-end
+    (λ c. search needs)
+    (λ c. search needs)
+    (λ c. search needs)
+    (λ c. search needs)
+    (λ c. search needs)
+    (λ c. search needs)
     run-call-requires
-    add-n
-    loop-less
+    (λ c. search needs)
+    (λ c. search needs)
     loop-again
     same-length
     same-length-2

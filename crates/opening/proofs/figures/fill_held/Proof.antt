@@ -3,7 +3,7 @@ use Prim.Native.Nat.{_-_}
 use native.Mathlib.Omega.{arith}
 use lib.ListN.{length}
 use denote.Ref.{now}
-use Rattle.reserving.proofs.VectorLaws.{Filling, filling-none, filling-next, filling-all}
+use Rattle.steps_2_to_4.proofs.VectorLaws.{Filling, filling-none, filling-next, filling-all}
 use Rattle.opening.specs.Figures.{heldFrom}
 use Rattle.opening.proofs.FigureLaws.{first-holders}
 use borrow.Author.Needs.{needs}
@@ -21,18 +21,6 @@ loop-holds c = filling-none _ _
 
 held-by-requires : tie.Need-held-by-requires Inv-loop μ-loop
 held-by-requires c κs = first-holders _ _ _ _ _ _ (c .before .before .before .before .before .before .pre) (omega arith)
-
-mul-held : tie.Need-mul-held Inv-loop μ-loop
-mul-held c = search needs
-
-slice-write-held : tie.Need-slice-write-held Inv-loop μ-loop
-slice-write-held c = search needs
-
-add-holder : tie.Need-add-holder Inv-loop μ-loop
-add-holder c = search needs
-
-loop-less : tie.Need-loop-less Inv-loop μ-loop
-loop-less c = search needs
 
 loop-again : tie.Need-loop-again Inv-loop μ-loop
 loop-again c =
@@ -53,10 +41,10 @@ fill-held-spec =
     μ-loop
     loop-holds
     held-by-requires
-    mul-held
-    slice-write-held
-    add-holder
-    loop-less
+    (λ c. search needs)
+    (λ c. search needs)
+    (λ c. search needs)
+    (λ c. search needs)
     loop-again
     same-length
     returns)

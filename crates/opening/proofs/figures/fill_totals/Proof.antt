@@ -6,7 +6,7 @@ use native.Mathlib.Omega.{arith}
 use lib.ListN.{length}
 use denote.Ref.{now}
 use Rattle.base.specs.Words.{at}
-use Rattle.reserving.proofs.VectorLaws.{Filling, filling-none, filling-next, filling-all}
+use Rattle.steps_2_to_4.proofs.VectorLaws.{Filling, filling-none, filling-next, filling-all}
 use borrow.Author.Needs.{needs}
 use Rattle.opening.proofs.figures.fill_totals.Statement.{statement}
 use Rattle.opening.proofs.figures.fill_totals.Tie as tie
@@ -23,32 +23,8 @@ abbrev μ-loop : tie.MeasureT-loop
 loop-holds : tie.Need-loop-holds Inv-loop μ-loop
 loop-holds c = filling-none _ _
 
-mul-totals : tie.Need-mul-totals Inv-loop μ-loop
-mul-totals c = search needs
-
-shared-slice-read-totals : tie.Need-shared-slice-read-totals Inv-loop μ-loop
-shared-slice-read-totals c = search needs
-
-mul-totals-2 : tie.Need-mul-totals-2 Inv-loop μ-loop
-mul-totals-2 c = search needs
-
-shared-slice-read-totals-2 : tie.Need-shared-slice-read-totals-2 Inv-loop μ-loop
-shared-slice-read-totals-2 c = search needs
-
 add-totals : tie.Need-add-totals Inv-loop μ-loop
 add-totals c = omega (arith, c .before .before .before .before .pre .2 (c .before .before .before .loop .h) (omega arith))
-
-mul-totals-3 : tie.Need-mul-totals-3 Inv-loop μ-loop
-mul-totals-3 c = search needs
-
-slice-write-totals : tie.Need-slice-write-totals Inv-loop μ-loop
-slice-write-totals c = search needs
-
-add-h : tie.Need-add-h Inv-loop μ-loop
-add-h c = search needs
-
-loop-less : tie.Need-loop-less Inv-loop μ-loop
-loop-less c = search needs
 
 loop-again : tie.Need-loop-again Inv-loop μ-loop
 loop-again c =
@@ -68,15 +44,15 @@ fill-totals-spec =
     Inv-loop
     μ-loop
     loop-holds
-    mul-totals
-    shared-slice-read-totals
-    mul-totals-2
-    shared-slice-read-totals-2
+    (λ c. search needs)
+    (λ c. search needs)
+    (λ c. search needs)
+    (λ c. search needs)
     add-totals
-    mul-totals-3
-    slice-write-totals
-    add-h
-    loop-less
+    (λ c. search needs)
+    (λ c. search needs)
+    (λ c. search needs)
+    (λ c. search needs)
     loop-again
     same-length
     returns)

@@ -11,31 +11,13 @@ fill-held-requires c κs = c .before .before .before .before .before .before .be
 add-end : tie.Need-add-end
 add-end c = omega (arith, loads-inside _ _ _ _ _ _ _ _ (c .before .before .before .before .before .before .before .before .before .before .pre) _ (c .before .before .fill-held .ensures), c .before .before .before .before .before .before .before .before .before .before .pre .tables .kw-size)
 
-sub-step5-shares : tie.Need-sub-step5-shares
-sub-step5-shares c = search needs
-
-part-step5-shares-start : tie.Need-part-step5-shares-start
-part-step5-shares-start c = search needs
-
 part-step5-shares-end : tie.Need-part-step5-shares-end
 part-step5-shares-end c = loads-inside _ _ _ _ _ _ _ _ (c .before .before .before .before .before .before .before .before .before .before .before .pre) _ (c .before .before .before .fill-held .ensures)
-
-step5-shares-requires : tie.Need-step5-shares-requires
-step5-shares-requires c κs = search needs
 
 fill-totals-requires : tie.Need-fill-totals-requires
 fill-totals-requires c κs =
     let within = totals-within _ _ _ _ _ _ _ _ (c .before .before .before .before .before .before .before .before .before .before .before .before .before .before .before .before .before .before .before .pre) _ (c .before .before .before .before .before .before .before .before .before .before .before .fill-held .ensures) _ (c .before .before .before .before .before .step5-shares .ensures .1) in
     (within .0, within .1, total-most _ _ _ _ _ _ _ _ (c .before .before .before .before .before .before .before .before .before .before .before .before .before .before .before .before .before .before .before .pre) _ (c .before .before .before .before .before .before .before .before .before .before .before .fill-held .ensures) _ (c .before .before .before .before .before .step5-shares .ensures .1))
-
-same-length : tie.Need-same-length
-same-length c = search needs
-
-same-length-2 : tie.Need-same-length-2
-same-length-2 c = search needs
-
-same-length-3 : tie.Need-same-length-3
-same-length-3 c = search needs
 
 returns : tie.Need-returns
 returns c = held-taken _ _ _ _ _ _ _ _ (c .before .before .before .before .before .before .before .before .before .before .before .before .before .before .before .before .before .before .before .before .before .before .pre) _ (c .before .before .before .before .before .before .before .before .before .before .before .before .before .before .fill-held .ensures) _ (c .before .before .before .before .before .before .before .before .step5-shares .ensures .1) _ (c .before .before .fill-totals .ensures)
@@ -46,12 +28,12 @@ steps-5-to-7-spec =
     (tie.spec
     fill-held-requires
     add-end
-    sub-step5-shares
-    part-step5-shares-start
+    (λ c. search needs)
+    (λ c. search needs)
     part-step5-shares-end
-    step5-shares-requires
+    (λ c κs. search needs)
     fill-totals-requires
-    same-length
-    same-length-2
-    same-length-3
+    (λ c. search needs)
+    (λ c. search needs)
+    (λ c. search needs)
     returns)

@@ -7,9 +7,6 @@ use borrow.Author.Needs.{needs}
 use Rattle.opening.proofs.year.carry_out.Statement.{statement}
 use Rattle.opening.proofs.year.carry_out.Tie as tie
 
-reserve-requires : tie.Need-reserve-requires
-reserve-requires c κs = search needs
-
 slice-aggregate-steps-5-to-7 : tie.Need-slice-aggregate-steps-5-to-7
 slice-aggregate-steps-5-to-7 c =
     let a = c .before .before .before .before .before .before .before .args in
@@ -43,12 +40,6 @@ steps-5-to-7-requires c κs =
     let a = c .before .before .before .before .before .before .before .before .before .before .before .args in
     held-given (now (a .kw)) (now (a .ties)) (a .interties) (a .holders) (c .before .before .before .before .before .before .before .before .before .before .before .pre .0) (search needs) _ _ _ _ (c .before .before .before .before .before .before .reserve .ensures)
 
-write-state-requires : tie.Need-write-state-requires
-write-state-requires c κs = search needs
-
-same-length : tie.Need-same-length
-same-length c = search needs
-
 returns : tie.Need-returns
 returns c =
     let a = c .before .before .before .before .before .before .before .before .before .before .before .before .before .before .before .before .before .before .before .before .before .before .before .before .before .args in (
@@ -60,7 +51,7 @@ pub carry-out-spec : {M : Type 1} → statement M
 carry-out-spec =
     tie.close
     (tie.spec
-    reserve-requires
+    (λ c κs. search needs)
     slice-aggregate-steps-5-to-7
     slice-aggregate-steps-5-to-7-2
     array-borrow-prefix-held
@@ -70,6 +61,6 @@ carry-out-spec =
     array-borrow-prefix-totals
     slice-aggregate-steps-5-to-7-5
     steps-5-to-7-requires
-    write-state-requires
-    same-length
+    (λ c κs. search needs)
+    (λ c. search needs)
     returns)

@@ -13,17 +13,11 @@ Inv-loop state sums₀ bits₀ two₀ two-end sums bits two = (two ≤ two-end) 
 abbrev μ-loop : tie.MeasureT-loop
 μ-loop state sums₀ bits₀ two₀ two-end sums bits two = two-end - two
 
-holder-count-requires : tie.Need-holder-count-requires Inv-loop μ-loop
-holder-count-requires c κs = search needs
-
 loop-holds : tie.Need-loop-holds Inv-loop μ-loop
 loop-holds c = (omega arith, added-none _ _ (c .before .before .pre .1))
 
 mul-add-two : tie.Need-mul-add-two Inv-loop μ-loop
 mul-add-two c = omega arith
-
-add-two-requires : tie.Need-add-two-requires Inv-loop μ-loop
-add-two-requires c κs = search needs
 
 add-two : tie.Need-add-two Inv-loop μ-loop
 add-two c = omega arith
@@ -48,10 +42,10 @@ add-by-two-spec =
     (tie.spec
     Inv-loop
     μ-loop
-    holder-count-requires
+    (λ c κs. search needs)
     loop-holds
     mul-add-two
-    add-two-requires
+    (λ c κs. search needs)
     add-two
     loop-less
     loop-again

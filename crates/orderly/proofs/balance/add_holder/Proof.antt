@@ -21,27 +21,15 @@ Inv-loop state holder sums₀ bits₀ intertie₀ intertie-end sums bits interti
 abbrev μ-loop : tie.MeasureT-loop
 μ-loop state holder sums₀ bits₀ intertie₀ intertie-end sums bits intertie = intertie-end - intertie
 
-intertie-count-requires : tie.Need-intertie-count-requires Inv-loop μ-loop
-intertie-count-requires c κs = search needs
-
 loop-holds : tie.Need-loop-holds Inv-loop μ-loop
 unfolding allTo fill
 loop-holds c = (omega arith, refl, refl)
-
-pair-bits-requires : tie.Need-pair-bits-requires Inv-loop μ-loop
-pair-bits-requires c κs = search needs
 
 mul-wrapping-add-u32 : tie.Need-mul-wrapping-add-u32 Inv-loop μ-loop
 mul-wrapping-add-u32 c = omega arith
 
 element-copy-out-wrapping-add-u32 : tie.Need-element-copy-out-wrapping-add-u32 Inv-loop μ-loop
 element-copy-out-wrapping-add-u32 c = omega arith
-
-pair-kw-requires : tie.Need-pair-kw-requires Inv-loop μ-loop
-pair-kw-requires c κs = search needs
-
-wrapping-add-u32-requires : tie.Need-wrapping-add-u32-requires Inv-loop μ-loop
-wrapping-add-u32-requires c κs = search needs
 
 mul-sums : tie.Need-mul-sums Inv-loop μ-loop
 mul-sums c = omega arith
@@ -72,13 +60,13 @@ add-holder-spec =
     (tie.spec
     Inv-loop
     μ-loop
-    intertie-count-requires
+    (λ c κs. search needs)
     loop-holds
-    pair-bits-requires
+    (λ c κs. search needs)
     mul-wrapping-add-u32
     element-copy-out-wrapping-add-u32
-    pair-kw-requires
-    wrapping-add-u32-requires
+    (λ c κs. search needs)
+    (λ c κs. search needs)
     mul-sums
     element-write-sums
     add-intertie

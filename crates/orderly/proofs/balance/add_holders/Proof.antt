@@ -7,22 +7,10 @@ use Rattle.orderly.proofs.BalanceLaws.{added-same, added-last}
 use Rattle.orderly.proofs.balance.add_holders.Statement.{statement}
 use Rattle.orderly.proofs.balance.add_holders.Tie as tie
 
-holder-count-requires : tie.Need-holder-count-requires
-holder-count-requires c κs = search needs
-
-add-by-two-requires : tie.Need-add-by-two-requires
-add-by-two-requires c κs = search needs
-
 returns : tie.Need-returns
 returns c =
     let s = c .before .before .before .before .before .args .state .now in
     added-same s _ (2 * (holders s / 2)) (holders s) _ (omega arith) (c .before .add-by-two .ensures)
-
-sub-add-holder : tie.Need-sub-add-holder
-sub-add-holder c = search needs
-
-add-holder-requires : tie.Need-add-holder-requires
-add-holder-requires c κs = search needs
 
 returns-2 : tie.Need-returns-2
 returns-2 c =
@@ -37,9 +25,9 @@ pub add-holders-spec : {M : Type 1} → statement M
 add-holders-spec =
     tie.close
     (tie.spec
-    holder-count-requires
-    add-by-two-requires
+    (λ c κs. search needs)
+    (λ c κs. search needs)
     returns
-    sub-add-holder
-    add-holder-requires
+    (λ c. search needs)
+    (λ c κs. search needs)
     returns-2)

@@ -17,15 +17,6 @@ add-holders-requires c κs = (
   },
 )
 
-intertie-count-requires : tie.Need-intertie-count-requires
-intertie-count-requires c κs = search needs
-
-row-within-requires : tie.Need-row-within-requires
-row-within-requires c κs = search needs
-
-limits-met-requires : tie.Need-limits-met-requires
-limits-met-requires c κs = search needs
-
 returns : tie.Need-returns
 returns c =
     let tested = c .before .before in
@@ -41,7 +32,7 @@ limits-balance-spec =
     tie.close
     (tie.spec
     add-holders-requires
-    intertie-count-requires
-    row-within-requires
-    limits-met-requires
+    (λ c κs. search needs)
+    (λ c κs. search needs)
+    (λ c κs. search needs)
     returns)

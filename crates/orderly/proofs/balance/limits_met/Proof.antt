@@ -18,9 +18,6 @@ Inv-loop state sums met₀ intertie₀ intertie-end met intertie =
 abbrev μ-loop : tie.MeasureT-loop
 μ-loop state sums met₀ intertie₀ intertie-end met intertie = intertie-end - intertie
 
-intertie-count-requires : tie.Need-intertie-count-requires Inv-loop μ-loop
-intertie-count-requires c κs = search needs
-
 loop-holds : tie.Need-loop-holds Inv-loop μ-loop
 unfolding allTo
 loop-holds c = search needs
@@ -53,7 +50,7 @@ limits-met-spec =
     (tie.spec
     Inv-loop
     μ-loop
-    intertie-count-requires
+    (λ c κs. search needs)
     loop-holds
     mul-limit-met
     element-copy-out-limit-met

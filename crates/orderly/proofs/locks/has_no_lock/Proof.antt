@@ -18,9 +18,6 @@ Inv-loop state holder bits₀ intertie₀ intertie-end bits intertie =
 abbrev μ-loop : tie.MeasureT-loop
 μ-loop state holder bits₀ intertie₀ intertie-end bits intertie = intertie-end - intertie
 
-intertie-count-requires : tie.Need-intertie-count-requires Inv-loop μ-loop
-intertie-count-requires c κs = search needs
-
 loop-holds : tie.Need-loop-holds Inv-loop μ-loop
 unfolding allTo
 loop-holds c = (omega arith, refl)
@@ -28,14 +25,8 @@ loop-holds c = (omega arith, refl)
 add-row-word : tie.Need-add-row-word Inv-loop μ-loop
 add-row-word c = omega arith
 
-row-word-requires : tie.Need-row-word-requires Inv-loop μ-loop
-row-word-requires c κs = search needs
-
 add-row-word-2 : tie.Need-add-row-word-2 Inv-loop μ-loop
 add-row-word-2 c = omega arith
-
-row-word-requires-2 : tie.Need-row-word-requires-2 Inv-loop μ-loop
-row-word-requires-2 c κs = search needs
 
 add-intertie : tie.Need-add-intertie Inv-loop μ-loop
 add-intertie c = omega arith
@@ -58,12 +49,12 @@ has-no-lock-spec =
     (tie.spec
     Inv-loop
     μ-loop
-    intertie-count-requires
+    (λ c κs. search needs)
     loop-holds
     add-row-word
-    row-word-requires
+    (λ c κs. search needs)
     add-row-word-2
-    row-word-requires-2
+    (λ c κs. search needs)
     add-intertie
     loop-less
     loop-again

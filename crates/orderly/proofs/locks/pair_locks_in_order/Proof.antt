@@ -15,14 +15,8 @@ Inv-loop state holder faults₀ intertie₀ intertie-end faults intertie =
 abbrev μ-loop : tie.MeasureT-loop
 μ-loop state holder faults₀ intertie₀ intertie-end faults intertie = intertie-end - intertie
 
-intertie-count-requires : tie.Need-intertie-count-requires Inv-loop μ-loop
-intertie-count-requires c κs = search needs
-
 loop-holds : tie.Need-loop-holds Inv-loop μ-loop
 loop-holds c = (omega arith, faults-zero _)
-
-pair-fault-requires : tie.Need-pair-fault-requires Inv-loop μ-loop
-pair-fault-requires c κs = search needs
 
 add-faults : tie.Need-add-faults Inv-loop μ-loop
 add-faults c = omega (arith, faults-turn-most _ _ (c .before .before .loop .inv .1) (c .pair-fault .ensures))
@@ -45,9 +39,9 @@ pair-locks-in-order-spec =
     (tie.spec
     Inv-loop
     μ-loop
-    intertie-count-requires
+    (λ c κs. search needs)
     loop-holds
-    pair-fault-requires
+    (λ c κs. search needs)
     add-faults
     add-intertie
     loop-less

@@ -20,15 +20,9 @@ Inv-loop state in-order₀ holder₀ holder-end in-order holder =
 abbrev μ-loop : tie.MeasureT-loop
 μ-loop state in-order₀ holder₀ holder-end in-order holder = holder-end - holder
 
-holder-count-requires : tie.Need-holder-count-requires Inv-loop μ-loop
-holder-count-requires c κs = search needs
-
 loop-holds : tie.Need-loop-holds Inv-loop μ-loop
 unfolding allTo
 loop-holds c = search needs
-
-holder-pending-in-order-requires : tie.Need-holder-pending-in-order-requires Inv-loop μ-loop
-holder-pending-in-order-requires c κs = search needs
 
 add-holder : tie.Need-add-holder Inv-loop μ-loop
 add-holder c = omega arith
@@ -48,9 +42,9 @@ pending-in-order-spec =
     (tie.spec
     Inv-loop
     μ-loop
-    holder-count-requires
+    (λ c κs. search needs)
     loop-holds
-    holder-pending-in-order-requires
+    (λ c κs. search needs)
     add-holder
     loop-less
     loop-again

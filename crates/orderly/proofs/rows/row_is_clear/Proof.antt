@@ -22,9 +22,6 @@ loop-holds : tie.Need-loop-holds Inv-loop μ-loop
 unfolding allTo
 loop-holds c = (omega arith, refl)
 
-row-word-requires : tie.Need-row-word-requires Inv-loop μ-loop
-row-word-requires c κs = search needs
-
 add-column : tie.Need-add-column Inv-loop μ-loop
 add-column c = omega arith
 
@@ -40,4 +37,4 @@ returns c = tests-end _ _ _ (c .before .loop .inv .1) (omega arith) (omega arith
 pub row-is-clear-spec : {M : Type 1} → statement M
 row-is-clear-spec =
     tie.close
-    (tie.spec Inv-loop μ-loop loop-holds row-word-requires add-column loop-less loop-again returns)
+    (tie.spec Inv-loop μ-loop loop-holds (λ c κs. search needs) add-column loop-less loop-again returns)

@@ -21,12 +21,6 @@ loop-holds : tie.Need-loop-holds Inv-loop μ-loop
 unfolding sumTo
 loop-holds c = search needs
 
-row-word-requires : tie.Need-row-word-requires Inv-loop μ-loop
-row-word-requires c κs = search needs
-
-cast-sum : tie.Need-cast-sum Inv-loop μ-loop
-cast-sum c = search needs
-
 add-sum : tie.Need-add-sum Inv-loop μ-loop
 add-sum c = omega arith
 
@@ -49,8 +43,8 @@ row-sum-spec =
     Inv-loop
     μ-loop
     loop-holds
-    row-word-requires
-    cast-sum
+    (λ c κs. search needs)
+    (λ c. search needs)
     add-sum
     add-column
     loop-less

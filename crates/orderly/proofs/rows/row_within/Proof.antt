@@ -20,12 +20,6 @@ abbrev μ-loop : tie.MeasureT-loop
 loop-holds : tie.Need-loop-holds Inv-loop μ-loop
 loop-holds c = (omega arith, faults-zero _)
 
-row-word-requires : tie.Need-row-word-requires Inv-loop μ-loop
-row-word-requires c κs = search needs
-
-above-requires : tie.Need-above-requires Inv-loop μ-loop
-above-requires c κs = search needs
-
 add-faults : tie.Need-add-faults Inv-loop μ-loop
 add-faults c =
     omega (arith, faults-turn-most _ _ {f = c .above .result} (c .before .before .before .loop .inv .1) (cc))
@@ -49,8 +43,8 @@ row-within-spec =
     Inv-loop
     μ-loop
     loop-holds
-    row-word-requires
-    above-requires
+    (λ c κs. search needs)
+    (λ c κs. search needs)
     add-faults
     add-column
     loop-less

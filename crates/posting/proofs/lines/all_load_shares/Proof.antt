@@ -17,35 +17,8 @@ Inv-loop state holders first sum₀ holder₀ sum holder =
 abbrev μ-loop : tie.MeasureT-loop
 μ-loop state holders first sum₀ holder₀ sum holder = holders - holder
 
-cast-first : tie.Need-cast-first Inv-loop μ-loop
-cast-first c = search needs
-
-mul-first : tie.Need-mul-first Inv-loop μ-loop
-mul-first c = search needs
-
 loop-holds : tie.Need-loop-holds Inv-loop μ-loop
 loop-holds c = (search needs, sym (sumTo-zero _), search needs)
-
-add-wide : tie.Need-add-wide Inv-loop μ-loop
-add-wide c = search needs
-
-mul-wide : tie.Need-mul-wide Inv-loop μ-loop
-mul-wide c = search needs
-
-shared-slice-read-wide : tie.Need-shared-slice-read-wide Inv-loop μ-loop
-shared-slice-read-wide c = search needs
-
-wide-requires : tie.Need-wide-requires Inv-loop μ-loop
-wide-requires c κs = search needs
-
-add-sum : tie.Need-add-sum Inv-loop μ-loop
-add-sum c = search needs
-
-add-holder : tie.Need-add-holder Inv-loop μ-loop
-add-holder c = search needs
-
-loop-less : tie.Need-loop-less Inv-loop μ-loop
-loop-less c = search needs
 
 loop-again : tie.Need-loop-again Inv-loop μ-loop
 loop-again c =
@@ -67,15 +40,15 @@ all-load-shares-spec =
     (tie.spec
     Inv-loop
     μ-loop
-    cast-first
-    mul-first
+    (λ c. search needs)
+    (λ c. search needs)
     loop-holds
-    add-wide
-    mul-wide
-    shared-slice-read-wide
-    wide-requires
-    add-sum
-    add-holder
-    loop-less
+    (λ c. search needs)
+    (λ c. search needs)
+    (λ c. search needs)
+    (λ c κs. search needs)
+    (λ c. search needs)
+    (λ c. search needs)
+    (λ c. search needs)
     loop-again
     returns)

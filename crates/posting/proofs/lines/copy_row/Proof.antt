@@ -4,8 +4,8 @@ use mathlib.Core.Path.{_≡_, refl, sym, ap, _∙_}
 use native.Mathlib.Omega.{arith}
 use lib.ListN.{length, length-set}
 use denote.Ref.{now}
-use Rattle.rows.specs.Rows.{fillRow}
-use Rattle.rows.proofs.RowLaws.{fillRow-none, fillRow-turn}
+use Rattle.state_rows.specs.Rows.{fillRow}
+use Rattle.state_rows.proofs.RowLaws.{fillRow-none, fillRow-turn}
 use Rattle.posting.specs.Fit.{rowWord}
 use Rattle.posting.proofs.lines.copy_row.Statement.{statement}
 use Rattle.posting.proofs.lines.copy_row.Tie as tie
@@ -18,41 +18,8 @@ Inv-loop state row count lines₀ to from first c₀ lines c =
 abbrev μ-loop : tie.MeasureT-loop
 μ-loop state row count lines₀ to from first c₀ lines c = count - c
 
-mul-from : tie.Need-mul-from Inv-loop μ-loop
-mul-from c = search needs
-
-mul-first : tie.Need-mul-first Inv-loop μ-loop
-mul-first c = search needs
-
 loop-holds : tie.Need-loop-holds Inv-loop μ-loop
 loop-holds c = (search needs, refl, sym (fillRow-none _ _ _))
-
-add-wide : tie.Need-add-wide Inv-loop μ-loop
-add-wide c = search needs
-
-mul-wide : tie.Need-mul-wide Inv-loop μ-loop
-mul-wide c = search needs
-
-shared-slice-read-wide : tie.Need-shared-slice-read-wide Inv-loop μ-loop
-shared-slice-read-wide c = search needs
-
-wide-requires : tie.Need-wide-requires Inv-loop μ-loop
-wide-requires c κs = search needs
-
-add-lines : tie.Need-add-lines Inv-loop μ-loop
-add-lines c = search needs
-
-mul-lines : tie.Need-mul-lines Inv-loop μ-loop
-mul-lines c = search needs
-
-slice-write-lines : tie.Need-slice-write-lines Inv-loop μ-loop
-slice-write-lines c = search needs
-
-add-c : tie.Need-add-c Inv-loop μ-loop
-add-c c = search needs
-
-loop-less : tie.Need-loop-less Inv-loop μ-loop
-loop-less c = search needs
 
 loop-again : tie.Need-loop-again Inv-loop μ-loop
 loop-again c =
@@ -77,18 +44,18 @@ copy-row-spec =
     (tie.spec
     Inv-loop
     μ-loop
-    mul-from
-    mul-first
+    (λ c. search needs)
+    (λ c. search needs)
     loop-holds
-    add-wide
-    mul-wide
-    shared-slice-read-wide
-    wide-requires
-    add-lines
-    mul-lines
-    slice-write-lines
-    add-c
-    loop-less
+    (λ c. search needs)
+    (λ c. search needs)
+    (λ c. search needs)
+    (λ c κs. search needs)
+    (λ c. search needs)
+    (λ c. search needs)
+    (λ c. search needs)
+    (λ c. search needs)
+    (λ c. search needs)
     loop-again
     same-length
     returns)

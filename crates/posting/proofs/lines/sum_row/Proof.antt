@@ -4,8 +4,8 @@ use mathlib.Core.Path.{_≡_, refl, sym, ap, _∙_}
 use native.Mathlib.Omega.{arith}
 use lib.ListN.{length, length-set}
 use denote.Ref.{now}
-use Rattle.rows.specs.Rows.{fillRow}
-use Rattle.rows.proofs.RowLaws.{fillRow-none, fillRow-turn}
+use Rattle.state_rows.specs.Rows.{fillRow}
+use Rattle.state_rows.proofs.RowLaws.{fillRow-none, fillRow-turn}
 use Rattle.posting.specs.Fit.{fieldOn}
 use Rattle.posting.proofs.lines.sum_row.Statement.{statement}
 use Rattle.posting.proofs.lines.sum_row.Tie as tie
@@ -18,29 +18,8 @@ Inv-loop state field holders interties lines₀ to first intertie₀ lines inter
 abbrev μ-loop : tie.MeasureT-loop
 μ-loop state field holders interties lines₀ to first intertie₀ lines intertie = interties - intertie
 
-mul-first : tie.Need-mul-first Inv-loop μ-loop
-mul-first c = search needs
-
 loop-holds : tie.Need-loop-holds Inv-loop μ-loop
 loop-holds c = (search needs, refl, sym (fillRow-none _ _ _))
-
-field-on-requires : tie.Need-field-on-requires Inv-loop μ-loop
-field-on-requires c κs = search needs
-
-add-lines : tie.Need-add-lines Inv-loop μ-loop
-add-lines c = search needs
-
-mul-lines : tie.Need-mul-lines Inv-loop μ-loop
-mul-lines c = search needs
-
-slice-write-lines : tie.Need-slice-write-lines Inv-loop μ-loop
-slice-write-lines c = search needs
-
-add-intertie : tie.Need-add-intertie Inv-loop μ-loop
-add-intertie c = search needs
-
-loop-less : tie.Need-loop-less Inv-loop μ-loop
-loop-less c = search needs
 
 loop-again : tie.Need-loop-again Inv-loop μ-loop
 loop-again c =
@@ -65,14 +44,14 @@ sum-row-spec =
     (tie.spec
     Inv-loop
     μ-loop
-    mul-first
+    (λ c. search needs)
     loop-holds
-    field-on-requires
-    add-lines
-    mul-lines
-    slice-write-lines
-    add-intertie
-    loop-less
+    (λ c κs. search needs)
+    (λ c. search needs)
+    (λ c. search needs)
+    (λ c. search needs)
+    (λ c. search needs)
+    (λ c. search needs)
     loop-again
     same-length
     returns)

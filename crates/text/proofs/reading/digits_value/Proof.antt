@@ -20,12 +20,6 @@ abbrev μ-loop : tie.MeasureT-loop
 loop-holds : tie.Need-loop-holds Inv-loop μ-loop
 loop-holds c = (search needs, sym value-none, omega arith)
 
-mul-value : tie.Need-mul-value Inv-loop μ-loop
-mul-value c = search needs
-
-shared-slice-read-value : tie.Need-shared-slice-read-value Inv-loop μ-loop
-shared-slice-read-value c = search needs
-
 sub-value : tie.Need-sub-value Inv-loop μ-loop
 sub-value c =
     let a = c .before .before .before .args in
@@ -54,20 +48,11 @@ returns c =
     let more = value-turn (now (a .text)) (t .i) (search needs) in
     number-over (now (a .text)) (c .before .before .before .before .pre .0) (c .before .before .before .before .pre .1) (omega (arith, c .if1 .taken, t .inv .1, more, value-front (t .i + 1) (now (a .text))))
 
-add-i : tie.Need-add-i Inv-loop μ-loop
-add-i c = search needs
-
-loop-less : tie.Need-loop-less Inv-loop μ-loop
-loop-less c = search needs
-
 loop-again : tie.Need-loop-again Inv-loop μ-loop
 loop-again c =
     let a = c .before .before .before .before .args in
     let t = c .before .before .before .loop in
     (search needs, omega (arith, t .inv .1, value-turn (now (a .text)) (t .i) (search needs)), search needs)
-
-cast-t11 : tie.Need-cast-t11 Inv-loop μ-loop
-cast-t11 c = search needs
 
 returns-2 : tie.Need-returns-2 Inv-loop μ-loop
 returns-2 c =
@@ -82,14 +67,14 @@ digits-value-spec =
     Inv-loop
     μ-loop
     loop-holds
-    mul-value
-    shared-slice-read-value
+    (λ c. search needs)
+    (λ c. search needs)
     sub-value
     cast-value
     add-value
     returns
-    add-i
-    loop-less
+    (λ c. search needs)
+    (λ c. search needs)
     loop-again
-    cast-t11
+    (λ c. search needs)
     returns-2)

@@ -6,26 +6,11 @@ use borrow.Author.Needs.{needs}
 use Rattle.text.proofs.writing.put_figure.Statement.{statement}
 use Rattle.text.proofs.writing.put_figure.Tie as tie
 
-decimal-requires : tie.Need-decimal-requires
-decimal-requires c κs = search needs
-
-put-requires : tie.Need-put-requires
-put-requires c κs = search needs
-
-array-share-prefix-digits : tie.Need-array-share-prefix-digits
-array-share-prefix-digits c = search needs
-
-slice-aggregate-put-text : tie.Need-slice-aggregate-put-text
-slice-aggregate-put-text c = search needs
-
 put-text-requires : tie.Need-put-text-requires
 put-text-requires c κs =
     let a = c .before .before .before .before .before .before .before .before .before .args in
     let d = c .before .before .before .before .before .before .decimal .ensures in
     omega (arith, few-digits (a .number) _ (search needs) (d .1 .0), d .0 .1, c .before .before .before .before .put .ensures .0)
-
-same-length : tie.Need-same-length
-same-length c = search needs
 
 returns : tie.Need-returns
 returns c =
@@ -37,10 +22,10 @@ pub put-figure-spec : {M : Type 1} → statement M
 put-figure-spec =
     tie.close
     (tie.spec
-    decimal-requires
-    put-requires
-    array-share-prefix-digits
-    slice-aggregate-put-text
+    (λ c κs. search needs)
+    (λ c κs. search needs)
+    (λ c. search needs)
+    (λ c. search needs)
     put-text-requires
-    same-length
+    (λ c. search needs)
     returns)

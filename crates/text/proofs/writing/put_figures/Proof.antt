@@ -24,23 +24,11 @@ abbrev μ-loop : tie.MeasureT-loop
 loop-holds : tie.Need-loop-holds Inv-loop μ-loop
 loop-holds c = (search needs, refl, figures-none _ _ _)
 
-mul-put-figure : tie.Need-mul-put-figure Inv-loop μ-loop
-mul-put-figure c = search needs
-
-shared-slice-read-put-figure : tie.Need-shared-slice-read-put-figure Inv-loop μ-loop
-shared-slice-read-put-figure c = search needs
-
 put-figure-requires : tie.Need-put-figure-requires Inv-loop μ-loop
 put-figure-requires c κs =
     let a = c .before .before .before .before .before .before .args in
     let t = c .before .before .before .loop in
     omega (arith, t .inv .1, t .inv .2 .0, length-figures (a .separator) (take (t .i) (now (a .figures))), length-take-le (t .i) (now (a .figures)) (search needs))
-
-add-i : tie.Need-add-i Inv-loop μ-loop
-add-i c = search needs
-
-loop-less : tie.Need-loop-less Inv-loop μ-loop
-loop-less c = search needs
 
 loop-again : tie.Need-loop-again Inv-loop μ-loop
 loop-again c =
@@ -50,9 +38,6 @@ loop-again c =
       search needs,
       put-figures-turn (a .separator) (now (a .figures)) (t .i) (a .at) (t .next) _ (now (a .out)) (t .out) _ (search needs) (t .inv .2) (c .before .before .put-figure .ensures),
     )
-
-same-length : tie.Need-same-length Inv-loop μ-loop
-same-length c = search needs
 
 returns : tie.Need-returns Inv-loop μ-loop
 returns c =
@@ -67,11 +52,11 @@ put-figures-spec =
     Inv-loop
     μ-loop
     loop-holds
-    mul-put-figure
-    shared-slice-read-put-figure
+    (λ c. search needs)
+    (λ c. search needs)
     put-figure-requires
-    add-i
-    loop-less
+    (λ c. search needs)
+    (λ c. search needs)
     loop-again
-    same-length
+    (λ c. search needs)
     returns)

@@ -1,0 +1,111 @@
+-- `sheet_reading::refusal::read_sized` meets its contract: what is decided from the filled tables is numbers 3 and 4 of the sheet.
+use mathlib.Core.Path.{_≡_, refl}
+use native.Mathlib.Omega.{arith}
+use borrow.Author.Needs.{needs}
+use borrow.Author.Tests.{not-true, not-false}
+use denote.Ref.{now}
+use Rattle.sheet_records.specs.Refusal.{rulesHold, limitsHold}
+use Rattle.sheet_records.proofs.RefusalLaws.{whole, sized}
+use Rattle.sheet_reading.proofs.DecideLaws.{modest, rules-decided, limits-decided, refused-3, refused-4, stands}
+use Rattle.sheet_reading.proofs.refusal.read_sized.Statement.{statement}
+use Rattle.sheet_reading.proofs.refusal.read_sized.Tie as tie
+
+intertie-count-requires : tie.Need-intertie-count-requires
+intertie-count-requires c κs = c .before .pre .0
+
+holder-count-requires : tie.Need-holder-count-requires
+holder-count-requires c κs = c .before .before .pre .0
+
+add-records-requires : tie.Need-add-records-requires
+add-records-requires c κs =
+    let pre = c .before .before .before .before .before .before .pre in
+    (pre .0, pre .2, pre .3, pre .4)
+
+-- before the tables were filled: the test of each record, the two words that were read, and the function's entry
+abbrev tested : tie.After-add-records → tie.After-records-stand
+tested c = c .before .before .before
+
+abbrev words : tie.After-add-records → tie.After-holder-count
+words c = tested c .before
+
+abbrev entry : tie.After-add-records → tie.Start
+entry c = words c .before .before .before
+
+rules-hold-requires : tie.Need-rules-hold-requires
+rules-hold-requires c κs =
+    let read = words (c .before) in
+    omega (arith, sized _ (entry (c .before) .pre .1), read .holder-count .ensures, read .before .intertie-count .ensures)
+
+limits-hold-requires : tie.Need-limits-hold-requires
+limits-hold-requires c κs =
+    let filled = c .before .before .before in
+    let read = words filled in
+    let pre = entry filled .pre in
+    let sizes = sized _ (pre .1) in (
+      omega (arith, sizes, read .holder-count .ensures),
+      omega (arith, sizes, read .before .intertie-count .ensures),
+      rw (filled .add-records .ensures .1)
+          (modest _ (whole _ _ (pre .0) refl .few) (λ i. read .before .before .shared-slice-known .given i .fits)),
+    )
+
+-- where both tests are made, and the tables before them
+abbrev filledAt : tie.After-limits-hold → tie.After-add-records
+filledAt c = c .before .before .before .before
+
+-- the test of number 3 is that of the rules
+rules : (c : tie.After-limits-hold) → c .before .before .rules-hold .result ≡ rulesHold (now (entry (filledAt c) .args .sheet))
+rules c =
+    let filled = filledAt c in
+    let pre = entry filled .pre in
+    let read = words filled in
+    rules-decided _ (pre .0) (pre .1) _ _ (read .holder-count .ensures) (read .before .intertie-count .ensures)
+    _ _ _ (tested filled .records-stand .ensures) (filled .add-records .ensures .0) (c .before .before .rules-hold .ensures)
+
+-- the test of number 4 is that of the limits
+limits : (c : tie.After-limits-hold) → c .limits-hold .result ≡ limitsHold (now (entry (filledAt c) .args .sheet))
+limits c =
+    let filled = filledAt c in
+    let pre = entry filled .pre in
+    let read = words filled in
+    limits-decided _ (pre .0) (pre .1) _ _ (read .holder-count .ensures) (read .before .intertie-count .ensures)
+    _ _ (filled .add-records .ensures .1) (c .limits-hold .ensures)
+
+returns : tie.Need-returns
+returns c =
+    let decided = c .before in
+    let pre = entry (filledAt decided) .pre in
+    (refused-3 _ (pre .0) (pre .1) _ (rules decided) (not-true _ (c .if1 .taken)), filledAt decided .add-records .ensures .0, filledAt decided .add-records .ensures .1)
+
+returns-2 : tie.Need-returns-2
+returns-2 c =
+    let decided = c .before .before in
+    let pre = entry (filledAt decided) .pre in (
+      refused-4 _ (pre .0) (pre .1) _ _ (rules decided) (not-false _ (c .before .if1 .left)) (limits decided) (not-true _ (c .if2 .taken)),
+      filledAt decided .add-records .ensures .0,
+      filledAt decided .add-records .ensures .1,
+    )
+
+returns-3 : tie.Need-returns-3
+returns-3 c =
+    let decided = c .before .before in
+    let pre = entry (filledAt decided) .pre in (
+      stands _ (pre .0) (pre .1) _ _ (rules decided) (not-false _ (c .before .if1 .left)) (limits decided) (not-false _ (c .if2 .left)),
+      filledAt decided .add-records .ensures .0,
+      filledAt decided .add-records .ensures .1,
+    )
+
+pub read-sized-spec : {M : Type 1} → statement M
+read-sized-spec =
+    tie.close
+    (tie.spec
+    intertie-count-requires
+    (λ c. search needs)
+    holder-count-requires
+    (λ c. search needs)
+    (λ c κs. search needs)
+    add-records-requires
+    rules-hold-requires
+    limits-hold-requires
+    returns
+    returns-2
+    returns-3)

@@ -1,0 +1,99 @@
+-- `sheet_reading::tables::place_records` meets its contract: after n records the table has their interties (`Added`), and after one more. The measure is the records still to come.
+use Prim.Native.Nat.{ℕ, _-_}
+use mathlib.Core.Path.{_≡_, refl, ap, _∙_}
+use native.Mathlib.Omega.{arith}
+use borrow.Author.Needs.{needs}
+use denote.Ref.{now}
+use Rattle.sheet_records.specs.Sheet.{count}
+use Rattle.sheet_records.specs.Reading.{readAt, readOf}
+use Rattle.sheet_records.proofs.RefusalLaws.{whole}
+use Rattle.sheet_records.proofs.ReadingLaws.{RecordRead, of-whole, record-read, at-end}
+use Rattle.sheet_records.specs.Sheet.{keyAt}
+use Rattle.sheet_records.specs.Key.{intertieOf}
+use Rattle.sheet_reading.proofs.PassLaws.{Added, added-none, slot-below, tie-room, added-more, added-all}
+use Rattle.sheet_reading.proofs.tables.place_records.Statement.{statement}
+use Rattle.sheet_reading.proofs.tables.place_records.Tie as tie
+
+abbrev Inv-loop : tie.InvT-loop
+Inv-loop sheet found interties₀ count cursor₀ interties cursor =
+    Added sheet (λ k. intertieOf (keyAt sheet k)) interties (cursor .at)
+
+abbrev μ-loop : tie.MeasureT-loop
+μ-loop sheet found interties₀ count cursor₀ interties cursor = Rattle.sheet_records.specs.Sheet.count sheet - cursor .at
+
+-- before the loop: the words that were read, and the function's entry
+abbrev words : tie.At-loop Inv-loop μ-loop → tie.After-record-count Inv-loop μ-loop
+words c = c .before .before
+
+abbrev entry : tie.At-loop Inv-loop μ-loop → tie.Start Inv-loop μ-loop
+entry c = words c .before .before
+
+-- what a turn reads is the sheet's record
+at-place : (c : tie.At-loop Inv-loop μ-loop) (n : ℕ) → n ≡ count (now (entry c .args .sheet))
+    → readOf (now (entry c .args .sheet)) n (c .loop .cursor .at) ≡ readAt (now (entry c .args .sheet)) (c .loop .cursor .at)
+at-place c n e = of-whole _ n _ (whole _ n (entry c .pre .0) e)
+
+-- the record that a turn is about
+here : (c : tie.After-read Inv-loop μ-loop) →
+    let head : tie.At-loop Inv-loop μ-loop = c .before .before .before in
+    RecordRead (now (entry head .args .sheet)) (head .loop .cursor .at) (c .read .given .0 .0) (c .read .given .0 .1 .0)
+here c = record-read _ _ _ _ _ (entry (c .before .before .before) .pre .0) (c .before .before .read-record .ensures ∙ at-place (c .before .before .before) _ (words (c .before .before .before) .record-count .ensures)) (c .read .given .1)
+
+record-count-requires : tie.Need-record-count-requires Inv-loop μ-loop
+record-count-requires c κs = c .before .pre .0
+
+loop-holds : tie.Need-loop-holds Inv-loop μ-loop
+loop-holds c = added-none _ _ _ _ (c .before .before .before .pre .2) (c .first .ensures)
+
+element-copy-out-slot : tie.Need-element-copy-out-slot Inv-loop μ-loop
+element-copy-out-slot c =
+    let found = c .before in
+    omega (arith, here found, whole _ _ (entry (found .before .before .before) .pre .0) refl)
+
+place-at-requires : tie.Need-place-at-requires Inv-loop μ-loop
+place-at-requires c κs =
+    let found = c .before .before .before .before in
+    let head = found .before .before .before in
+    let all = entry head .pre .1 in
+    let more = here found .inside in (
+      slot-below (now (entry head .args .sheet)) (now (entry head .args .found)) all _ more,
+      tie-room (now (entry head .args .sheet)) (now (entry head .args .found)) all _ more _ (head .loop .inv) _ (whole _ _ (entry head .pre .0) refl .few) (c .before .intertie .ensures ∙ ap intertieOf (here found .key-is)),
+    )
+
+loop-less : tie.Need-loop-less Inv-loop μ-loop
+loop-less c = omega (arith, here (c .before .before .before .before .before))
+
+loop-again : tie.Need-loop-again Inv-loop μ-loop
+loop-again c =
+    let found = c .before .before .before .before .before in
+    let head = found .before .before .before in
+    let now = here found in
+    let all = entry head .pre .1 in
+    added-more (denote.Ref.now (entry head .args .sheet)) (denote.Ref.now (entry head .args .found)) all _ (now .inside) _ _ (head .loop .inv) _ _ _ (c .before .before .intertie .ensures ∙ ap intertieOf (now .key-is)) (c .place-at .ensures) (now .next-is)
+
+returns : tie.Need-returns Inv-loop μ-loop
+returns c =
+    let head = c .before .before .before in
+    let done = at-end _ _ _ (entry head .pre .0) (c .before .before .read-record .ensures ∙ at-place head _ (words head .record-count .ensures)) (c .enum-told .given .1) in
+    added-all _ _ _ _ (head .loop .inv) done
+
+pub place-records-spec : {M : Type 1} → statement M
+place-records-spec =
+    tie.close
+    (tie.spec
+    Inv-loop
+    μ-loop
+    record-count-requires
+    (λ c. search needs)
+    (λ c κs. search needs)
+    loop-holds
+    (λ c κs. search needs)
+    (λ c. search needs)
+    (λ c. search needs)
+    element-copy-out-slot
+    (λ c κs. search needs)
+    place-at-requires
+    loop-less
+    loop-again
+    (λ c. search needs)
+    returns)

@@ -1,0 +1,45 @@
+-- `sixteen_zeros` meets its contract: bits that are 0 after i turns are those of i zeros (`UsedLaws`).
+use Prim.Native.Nat.{_-_, _≤_}
+use mathlib.Core.Path.{_≡_}
+use native.Mathlib.Omega.{arith}
+use denote.Ref.{now}
+use borrow.Author.Tests.{eqb-true}
+use Rattle.step_4b.specs.Used.{Zeros}
+use Rattle.step_4b.proofs.UsedLaws.{zeros-none, zeros-next, zeros-all}
+use borrow.Author.Needs.{needs}
+use Rattle.step_4b.proofs.sixteen_zeros.Statement.{statement}
+use Rattle.step_4b.proofs.sixteen_zeros.Tie as tie
+
+abbrev Inv-loop : tie.InvT-loop
+Inv-loop numbers from bits₀ i₀ bits i = (i ≤ 16) × (bits ≡ 0 → Zeros numbers from i)
+
+abbrev μ-loop : tie.MeasureT-loop
+μ-loop numbers from bits₀ i₀ bits i = 16 - i
+
+loop-holds : tie.Need-loop-holds Inv-loop μ-loop
+loop-holds c = (search needs, λ e. zeros-none (now (c .args .numbers)) (c .args .from))
+
+loop-again : tie.Need-loop-again Inv-loop μ-loop
+loop-again c =
+    let a = c .before .before .before .args in
+    (search needs, λ e. zeros-next (now (a .numbers)) (a .from) (c .before .before .loop .i) (c .before .before .loop .bits) (c .before .before .loop .inv .1) e)
+
+returns : tie.Need-returns Inv-loop μ-loop
+returns c =
+    let a = c .before .before .args in
+    λ e. zeros-all (now (a .numbers)) (a .from) (c .before .loop .i) (c .before .loop .inv .0) (c .loop-test .left) (c .before .loop .inv .1 (eqb-true (c .before .loop .bits) 0 e))
+
+pub sixteen-zeros-spec : {M : Type 1} → statement M
+sixteen-zeros-spec =
+    tie.close
+    (tie.spec
+    Inv-loop
+    μ-loop
+    loop-holds
+    (λ c. search needs)
+    (λ c. search needs)
+    (λ c. search needs)
+    (λ c. search needs)
+    (λ c. search needs)
+    loop-again
+    returns)

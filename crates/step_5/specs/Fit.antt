@@ -1,0 +1,43 @@
+-- What the workers of Step 5 are handed once lists and numbers are found to fit.
+use Prim.Native.Nat.{ℕ, _*_, _/_, _≤_, _<_}
+use mathlib.Core.Path.{_≡_}
+use mathlib.Core.List.{List}
+use lib.ListN.{length}
+use Rattle.base.specs.Words.{at}
+use Rattle.step_5.specs.Round.{eligible}
+
+-- every one of the first n numbers is at most `most`
+abbrev pub AtMost : ℕ → List ℕ → ℕ → Type 0
+AtMost n l most = (i : ℕ) → i < n → at l i ≤ most
+
+-- a mark for each of n holders
+pub record Marks (n : ℕ) (x : List ℕ) : Type 0 where
+  pub size : length x ≡ n
+  pub each : AtMost n x 1
+
+-- lists that fit and numbers in range
+pub record Accepted (total : ℕ) (held loads : List ℕ) : Type 0 where
+  pub few : length held ≤ 32
+  pub paired : length loads ≡ length held
+  pub total-kw : total ≤ 2880000000
+  pub held-kw : AtMost (length held) held 2880000000
+  pub load-shares : AtMost (length held) loads 100000000
+
+-- at most 32 numbers in range, and a mark for each
+pub record Addends (marks numbers : List ℕ) : Type 0 where
+  pub few : length numbers ≤ 32
+  pub marked : length marks ≡ length numbers
+  pub each : AtMost (length numbers) numbers 2880000000
+
+-- what is multiplied in a round: held × V and G × load share
+pub record Factors (held load gross all : ℕ) : Type 0 where
+  pub held-kw : held ≤ 2880000000
+  pub load-share : load ≤ 100000000
+  pub gross-kw : gross ≤ 2880000000
+  pub all-loads : all ≤ 3200000000
+
+-- what an eligible holder's share is made of: V above 0, and held at most G × load share / V
+pub record Quota (mark held load gross all : ℕ) : Type 0 where
+  pub factors : Factors held load gross all
+  pub divided : mark ≡ eligible → 0 < all
+  pub covered : mark ≡ eligible → held ≤ gross * load / all

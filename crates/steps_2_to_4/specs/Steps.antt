@@ -1,0 +1,54 @@
+-- What Steps 2 to 4b are handed together, and what they leave: over rows of exact length, and over the first words of rows.
+use Prim.Native.Nat.{ℕ, _≤_, _<_}
+use mathlib.Core.Path.{_≡_}
+use mathlib.Core.List.{List}
+use lib.ListN.{length}
+use Rattle.base.specs.Words.{at, tab, fill}
+use Rattle.intertie_shares.specs.Pairs.{fillPairs}
+use Rattle.sheet_reading.specs.Tables.{limitSlot, loadShareSlot}
+use Rattle.steps.specs.Inputs.{Inputs}
+use Rattle.steps.specs.Tables.{ofTables}
+use Rattle.steps.specs.Step2.{availableTotal}
+use Rattle.steps.specs.Step4a.{preRaGranted}
+use Rattle.steps.specs.Step4b.{newUseGranted}
+use Rattle.steps.specs.Step5to7.{unassigned}
+use Rattle.steps_2_to_4.specs.Vectors.{Row}
+
+-- the sheet's tables, with limits and load shares in range, and room for P and N
+pub record RowsGiven (kw ties loads pools quantities preRa newUse : List ℕ) : Type 0 where
+  pub few : length pools ≤ 48
+  pub small : length loads ≤ 32
+  pub each : length quantities ≡ length loads
+  pub kw-size : length kw ≡ 12481
+  pub ties-size : length ties ≡ 12481
+  pub pre-ra-size : length preRa ≡ 1536
+  pub new-use-size : length newUse ≡ 1536
+  pub limits : (i : ℕ) → i < length pools → at kw (limitSlot i) ≤ 20000000
+  pub load-shares : (h : ℕ) → h < length loads → at kw (loadShareSlot h) ≤ 100000000
+  pub weigh : Row (length loads) loads (λ h. at kw (loadShareSlot h))
+
+-- T, what stays unassigned, P and N
+pub record RowsTaken (kw ties : List ℕ) (I H : ℕ) (preRa₀ newUse₀ left preRa newUse : List ℕ) (total : ℕ) : Type 0 where
+  pub sum : total ≡ availableTotal (ofTables I H kw ties)
+  pub remains : left ≡ tab I (unassigned (ofTables I H kw ties))
+  pub granted : preRa ≡ fillPairs I H (preRaGranted (ofTables I H kw ties)) preRa₀
+  pub kept : newUse ≡ fillPairs I H (newUseGranted (ofTables I H kw ties)) newUse₀
+
+-- the same as tables are handed on whole: of a row of 48 words the first I are used
+pub record TablesGiven (kw ties : List ℕ) (I H : ℕ) (left preRa newUse : List ℕ) : Type 0 where
+  pub few : I ≤ 48
+  pub small : H ≤ 32
+  pub kw-size : length kw ≡ 12481
+  pub ties-size : length ties ≡ 12481
+  pub left-size : length left ≡ 48
+  pub pre-ra-size : length preRa ≡ 1536
+  pub new-use-size : length newUse ≡ 1536
+  pub limits : (i : ℕ) → i < I → at kw (limitSlot i) ≤ 20000000
+  pub load-shares : (h : ℕ) → h < H → at kw (loadShareSlot h) ≤ 100000000
+
+-- and what is left in them
+pub record TablesTaken (kw ties : List ℕ) (I H : ℕ) (left₀ preRa₀ newUse₀ left preRa newUse : List ℕ) (total : ℕ) : Type 0 where
+  pub sum : total ≡ availableTotal (ofTables I H kw ties)
+  pub remains : left ≡ fill I (unassigned (ofTables I H kw ties)) left₀
+  pub granted : preRa ≡ fillPairs I H (preRaGranted (ofTables I H kw ties)) preRa₀
+  pub kept : newUse ≡ fillPairs I H (newUseGranted (ofTables I H kw ties)) newUse₀

@@ -1,0 +1,26 @@
+-- `read_calls` meets its contract: a journal that was read has no more calls than there is room for.
+use denote.Ref.{now}
+use Rattle.year.proofs.JournalLaws.{calls-few}
+use borrow.Author.Needs.{needs}
+use Rattle.year.proofs.read_calls.Statement.{statement}
+use Rattle.year.proofs.read_calls.Tie as tie
+
+returns-4 : tie.Need-returns-4
+returns-4 c = calls-few _ (now (c .before .before .before .before .before .before .before .before .before .before .before .before .args .calls)) _ (search needs) (c .before .before .read-journal .ensures .0) (c .if3 .left)
+
+pub read-calls-spec : {M : Type 1} → statement M
+read-calls-spec =
+    tie.close
+    (tie.spec
+    (λ c κs. search needs)
+    (λ c κs. search needs)
+    (λ c. search needs)
+    (λ c κs. search needs)
+    (λ c κs. search needs)
+    (λ c. search needs)
+    (λ c. search needs)
+    (λ c κs. search needs)
+    (λ c κs. search needs)
+    (λ c κs. search needs)
+    (λ c. search needs)
+    returns-4)

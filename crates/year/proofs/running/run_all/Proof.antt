@@ -1,0 +1,70 @@
+-- `run_all` meets its contract. Each stretch has a call at least.
+use Prim.Native.Nat.{_-_, _≤_}
+use mathlib.Core.Path.{_≡_}
+use mathlib.Core.Bool.{false≢true}
+use native.Mathlib.Omega.{arith}
+use lib.ListN.{length}
+use denote.Ref.{now}
+use Rattle.year.specs.Year.{YearRan}
+use Rattle.year.proofs.StretchLaws.{stretch-ran, ran-true, year-none, year-all}
+use Rattle.year.proofs.running.run_all.Statement.{statement}
+use Rattle.year.proofs.running.run_all.Tie as tie
+use borrow.Author.Needs.{needs}
+
+abbrev Inv-loop : tie.InvT-loop
+Inv-loop calls count state₀ answers₀ first₀ state answers first =
+    (first ≤ count) × (length answers ≡ length answers₀) × (length state ≡ length state₀) × YearRan calls state₀ answers₀ first state answers
+
+abbrev μ-loop : tie.MeasureT-loop
+μ-loop calls count state₀ answers₀ first₀ state answers first = count - first
+
+loop-holds : tie.Need-loop-holds Inv-loop μ-loop
+loop-holds c = (search needs, search needs, search needs, year-none (now (c .before .before .before .args .calls)) (now (c .before .before .before .args .state)) (now (c .before .before .before .args .answers)))
+
+returns : tie.Need-returns Inv-loop μ-loop
+returns c = λ e. absurd (false≢true e)
+
+loop-again : tie.Need-loop-again Inv-loop μ-loop
+loop-again c =
+    let a = c .before .before .before .before .before .before .before .before .before .before .before .before .before .before .before .args in
+    let t = c .before .before .before .before .before .before .before .before .before .before .before .loop in (
+      search needs,
+      search needs,
+      search needs,
+      stretch-ran (now (a .calls)) (t .first) (c .before .before .before .before .before .before .before .before .before .stretch-end .result) (c .before .before .before .before .before .before .before .before .before .stretch-end .ensures .0) (omega (arith, c .before .before .before .before .before .before .before .before .before .before .before .before .before .before .before .pre .0, c .before .before .before .before .before .before .before .before .before .stretch-end .ensures .1)) (c .before .before .before .before .before .before .before .before .before .stretch-end .ensures .2)
+          (now (a .state)) (now (a .answers)) (t .answers) (t .state) (t .inv .3 .0) (t .inv .3 .1) (omega (arith, c .before .before .before .before .before .before .before .before .before .before .before .before .before .before .before .pre .1, c .before .before .before .before .before .before .before .before .before .stretch-end .ensures .1, t .inv .1)) _ _
+          (c .before .before .before .before .before .run-stretch .ensures (ran-true _ (c .if1 .left))),
+    )
+
+returns-2 : tie.Need-returns-2 Inv-loop μ-loop
+returns-2 c = λ e. year-all (now (c .before .before .before .before .before .args .calls)) (now (c .before .before .before .before .before .args .state)) (now (c .before .before .before .before .before .args .answers)) (c .before .before .before .before .before .args .count) (c .before .loop .inv .3) (omega arith)
+
+pub run-all-spec : {M : Type 1} → statement M
+run-all-spec =
+    tie.close
+    (tie.spec
+    Inv-loop
+    μ-loop
+    loop-holds
+    (λ c κs. search needs)
+    (λ c. search needs)
+    (λ c. search needs)
+    (λ c. search needs)
+    (λ c. search needs)
+    (λ c. search needs)
+    (λ c. search needs)
+    (λ c. search needs)
+    (λ c. search needs)
+    (λ c. search needs)
+    (λ c. search needs)
+    (λ c. search needs)
+    (λ c. search needs)
+    (λ c κs. search needs)
+    (λ c. search needs)
+    (λ c. search needs)
+    returns
+    (λ c. search needs)
+    loop-again
+    (λ c. search needs)
+    (λ c. search needs)
+    returns-2)

@@ -1,0 +1,43 @@
+-- `stretch_end` meets its contract. No call that the loop has passed is a closing.
+use Prim.Native.Nat.{_-_, _≤_, _<_}
+use denote.Ref.{now}
+use Rattle.year.proofs.running.stretch_end.Statement.{statement}
+use Rattle.year.proofs.running.stretch_end.Tie as tie
+use Rattle.year.proofs.StretchLaws.{NoneCloses, none-yet, none-more, one-closes}
+use borrow.Author.Needs.{needs}
+
+abbrev Inv-loop : tie.InvT-loop
+Inv-loop calls first count n₀ n =
+    (first ≤ n) × (n < count) × NoneCloses calls first n
+
+abbrev μ-loop : tie.MeasureT-loop
+μ-loop calls first count n₀ n = count - n
+
+loop-holds : tie.Need-loop-holds Inv-loop μ-loop
+loop-holds c = (search needs, search needs, none-yet (now (c .args .calls)) (c .args .first))
+
+returns : tie.Need-returns Inv-loop μ-loop
+returns c = (search needs, search needs, one-closes (now (c .before .before .before .before .args .calls)) (c .before .before .before .before .args .first) (c .before .before .before .loop .n) (c .before .before .before .loop .inv .2))
+
+loop-again : tie.Need-loop-again Inv-loop μ-loop
+loop-again c = (search needs, search needs, none-more (now (c .before .before .before .before .args .calls)) (c .before .before .before .before .args .first) (c .before .before .before .loop .n) (c .before .before .before .loop .inv .2) (c .before .if1 .taken))
+
+returns-2 : tie.Need-returns-2 Inv-loop μ-loop
+returns-2 c = (search needs, search needs, one-closes (now (c .before .before .before .args .calls)) (c .before .before .before .args .first) (c .before .before .loop .n) (c .before .before .loop .inv .2))
+
+pub stretch-end-spec : {M : Type 1} → statement M
+stretch-end-spec =
+    tie.close
+    (tie.spec
+    Inv-loop
+    μ-loop
+    loop-holds
+    (λ c. search needs)
+    (λ c. search needs)
+    (λ c. search needs)
+    (λ c. search needs)
+    returns
+    (λ c. search needs)
+    loop-again
+    (λ c. search needs)
+    returns-2)
