@@ -2,3 +2,8 @@ pub mod Choice
 pub mod Sums
 pub mod Words
 pub mod Answers
+pub mod Limits
+pub mod Refusals
+pub mod Kinds
+pub mod Stages
+pub mod Encoding

@@ -1,6 +1,11 @@
-// What every crate stands on: the answer of a call, and choices, sums and lists for the
-// specifications.
+// What every crate stands on: each number and name of the rules in its one home (limits, refusals, kinds of record, stages,
+// words of a call), the answer of a call, and choices, sums and lists for the specifications.
 pub mod encoding;
+pub mod kinds;
+pub mod limits;
+pub mod numbers;
+pub mod refusals;
+pub mod stages;
 
 ghost use mathlib.Core.Path.{_≡_};
 ghost use Rattle.base.specs.Answers.{refused, granted};
