@@ -2,3 +2,4 @@ pub mod Rules
 pub mod ChoiceLaws
 pub mod SumLaws
 pub mod WordLaws
+pub mod VectorLaws

@@ -6,6 +6,7 @@ pub mod limits;
 pub mod numbers;
 pub mod refusals;
 pub mod stages;
+pub mod vectors;
 
 ghost use mathlib.Core.Path.{_≡_};
 ghost use Rattle.base.specs.Answers.{refused, granted};

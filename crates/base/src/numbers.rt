@@ -15,3 +15,10 @@ pub fn excess(a: u64, b: u64) -> u64
 {
     if b < a { a - b } else { 0 }
 }
+
+// The shorter of two lengths.
+pub fn shorter(a: usize, b: usize) -> usize
+    ensures { λ r. ⌜ r ≡ min a b ⌝ }
+{
+    if a < b { a } else { b }
+}
