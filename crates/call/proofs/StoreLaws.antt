@@ -5,7 +5,8 @@ use mathlib.Core.List.{List}
 use native.Mathlib.Decide.{ℕ-discrete}
 use lib.ListN.{length, set}
 use Rattle.base.specs.Words.{at}
-use Rattle.state.specs.Layout.{stateWords, place}
+use Rattle.base.specs.Limits.{stateWords}
+use Rattle.state.specs.Layout.{place}
 use Rattle.state.proofs.FrameLaws.{at-stored, at-other-row, at-other-column}
 
 -- what holds of the old word, and of the stored one where it was stored, holds of the word after the store

@@ -1,4 +1,6 @@
 // What the calls of the year share: the tests of the table of refusals, each tried in its turn.
+use base::limits;
+use base::stages;
 use state::layout;
 ghost use mathlib.Core.Path.{_≡_};
 ghost use mathlib.Core.Bool.{not, _||_};
@@ -34,7 +36,7 @@ pub fn stage(state: &[u32]) -> u32
 pub fn not_open(state: &[u32]) -> bool
     ensures { λ r. ⌜ r ≡ not (eqb (stageOf (now (state .entry))) 4) ⌝ }
 {
-    stage(state) != layout::OPEN
+    stage(state) != stages::OPEN
 }
 
 // Number 8: whether the state has no such holder.
@@ -69,7 +71,7 @@ pub fn bad_kw(kw: u64) -> bool
 pub fn bad_term(years: u32) -> bool
     ensures { λ r. ⌜ r ≡ badTerm years ⌝ }
 {
-    !((1 <= years) & (years <= layout::MOST_TERM_YEARS))
+    !((1 <= years) & (years <= limits::MOST_YEARS))
 }
 
 // A holder's words of a field of the pairs, summed over the interties.

@@ -15,7 +15,8 @@ use Rattle.base.specs.Answers.{refused, granted}
 use Rattle.base.proofs.ChoiceLaws.{pick-true, pick-false, and-left, and-right}
 use Rattle.base.proofs.SumLaws.{sumTo-same, sumTo-add, sumTo-le, sumTo-zeros}
 use Rattle.base.proofs.WordLaws.{length-fill, at-fill, at-fill-past}
-use Rattle.state.specs.Layout.{stateWords, place, interties, holders, stageAt, stageOf, lastDayOf, unassignedOf, unplacedOf, placedOf, takenOf, lockedOf, termOf, pendingOf, onIntertie, ofHolder}
+use Rattle.base.specs.Limits.{stateWords}
+use Rattle.state.specs.Layout.{place, interties, holders, stageAt, stageOf, lastDayOf, unassignedOf, unplacedOf, placedOf, takenOf, lockedOf, termOf, pendingOf, onIntertie, ofHolder}
 use Rattle.state.specs.Orderly.{stateRefusal}
 use Rattle.state.proofs.OrderlyLaws.{Orderly, refusal-none}
 use Rattle.state.proofs.FrameLaws.{SameRows, SameOpening, same-interties, same-holders, same-pair, at-stored, at-other-row, at-other-column}

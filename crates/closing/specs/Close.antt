@@ -12,6 +12,7 @@ use Rattle.base.specs.declared.Answer.{Answer}
 use Rattle.intertie_shares.specs.Rule.{grantOn, kwOver, passesOver}
 use Rattle.state.specs.Layout.{interties, holders, stageAt, stageOf, unassignedOf, unplacedOf, placedOf, pendingOf}
 use Rattle.state.specs.Orderly.{stateRefusal}
+use Rattle.state.specs.Layout.{unassignedRow, unplacedRow, placedRow, pendingRow}
 use Rattle.state_rows.specs.Rows.{fillRow, fillPairs}
 use Rattle.call.specs.Outcome.{orElse, whenever}
 use Rattle.closing.specs.Weight.{weightOf}
@@ -50,10 +51,10 @@ module _ (s : List ℕ) where
   unfoldable pub closeState : List ℕ
   closeState =
       set
-      (fillPairs 237 (holders s) (interties s) (λ h i. 0)
-      (fillPairs 109 (holders s) (interties s) (λ h i. placedOf s h i + closeGrant h i)
-      (fillRow 105 (holders s) (λ h. unplacedOf s h - grantedTo h)
-      (fillRow 104 (interties s) (λ i. unassignedOf s i - grantedOn i) s))))
+      (fillPairs pendingRow (holders s) (interties s) (λ h i. 0)
+      (fillPairs placedRow (holders s) (interties s) (λ h i. placedOf s h i + closeGrant h i)
+      (fillRow unplacedRow (holders s) (λ h. unplacedOf s h - grantedTo h)
+      (fillRow unassignedRow (interties s) (λ i. unassignedOf s i - grantedOn i) s))))
       stageAt (stageOf s + 1)
 
   -- the grants buffer after it: word h·I + i has the kW of holder h on intertie i; later words stay

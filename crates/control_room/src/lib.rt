@@ -3,6 +3,7 @@
 mod sums;
 mod trades;
 
+use base::limits::STATE_WORDS;
 use state::layout;
 ghost use mathlib.Core.Path.{_≡_};
 ghost use Rattle.control_room.specs.Figures.{intertieFigures, holderFigures, isIntertie, isHolder};
@@ -38,21 +39,21 @@ pub struct HolderFigures {
 }
 
 // Whether the state's sizes are in range and the intertie is below I.
-fn is_intertie(state: &[u32; layout::STATE_WORDS], intertie: u32) -> bool
+fn is_intertie(state: &[u32; STATE_WORDS], intertie: u32) -> bool
     ensures { λ r. ⌜ r ≡ isIntertie (now (state .entry)) intertie ⌝ }
 {
     sums::sizes_in_range(state) & (intertie < sums::intertie_count(state))
 }
 
 // Whether the state's sizes are in range and the holder is below H.
-fn is_holder(state: &[u32; layout::STATE_WORDS], holder: u32) -> bool
+fn is_holder(state: &[u32; STATE_WORDS], holder: u32) -> bool
     ensures { λ r. ⌜ r ≡ isHolder (now (state .entry)) holder ⌝ }
 {
     sums::sizes_in_range(state) & (holder < sums::holder_count(state))
 }
 
 // The figures of an intertie; all 0 where the state has none of that number.
-pub fn intertie_figures(state: &[u32; layout::STATE_WORDS], intertie: u32) -> IntertieFigures
+pub fn intertie_figures(state: &[u32; STATE_WORDS], intertie: u32) -> IntertieFigures
     ensures { λ r. ⌜ r ≡ intertieFigures (now (state .entry)) intertie ⌝ }
 {
     if is_intertie(state, intertie) {
@@ -78,7 +79,7 @@ pub fn intertie_figures(state: &[u32; layout::STATE_WORDS], intertie: u32) -> In
 // The figures of a holder, with the trades of the first `count` calls; all 0 where the state has no
 // holder of that number.
 pub fn holder_figures(
-    state: &[u32; layout::STATE_WORDS],
+    state: &[u32; STATE_WORDS],
     calls: &[u32; CALLS_WORDS],
     answers: &[u64; ANSWERS_WORDS],
     count: usize,

@@ -1,6 +1,8 @@
 // Fields of the state: a word of them, and the sums over holders and over interties.
+use base::limits::MOST_HOLDERS;
+use base::limits::MOST_INTERTIES;
+use base::limits::STATE_WORDS;
 use state::layout;
-use state::layout::STATE_WORDS;
 ghost use mathlib.Core.Path.{_≡_};
 ghost use Prim.Native.Nat.{ℕ, _+_, _*_, _≤_};
 ghost use Rattle.base.specs.Sums.{sumTo};
@@ -24,8 +26,7 @@ pub(super) fn holder_count(state: &[u32; STATE_WORDS]) -> u32
 pub(super) fn sizes_in_range(state: &[u32; STATE_WORDS]) -> bool
     ensures { λ r. ⌜ r ≡ sizesFit (now (state .entry)) ⌝ }
 {
-    (intertie_count(state) <= layout::MOST_INTERTIES)
-        & (holder_count(state) <= layout::MOST_HOLDERS)
+    (intertie_count(state) <= MOST_INTERTIES as u32) & (holder_count(state) <= MOST_HOLDERS as u32)
 }
 
 // The word of an intertie or a holder in a field.

@@ -5,7 +5,8 @@ use mathlib.Core.List.{List, [], _∷_}
 use lib.ListN.{set, replicate}
 use Rattle.base.specs.Sums.{sumTo, allTo}
 use Rattle.base.specs.Answers.{refused, granted}
-use Rattle.state.specs.Layout.{stateWords, intertiesAt, holdersAt, limitAt, loadShareAt, step5ShareAt, step7TotalAt, reservedAt, existingAt, stageAt, unassignedAt, unplacedAt, placedAt, lockedOf}
+use Rattle.base.specs.Limits.{stateWords}
+use Rattle.state.specs.Layout.{intertiesAt, holdersAt, limitAt, loadShareAt, step5ShareAt, step7TotalAt, reservedAt, existingAt, stageAt, unassignedAt, unplacedAt, placedAt, lockedOf}
 use Rattle.state.specs.Orderly.{stateRefusal, orderly, sizesInRange, stageInRange, limitsInRange, loadSharesInRange, balanced, lockedWithinPlaced, pendingWithinUnplaced, kwInRange, takingsInRange, sellersAreHolders, termsFit}
 use Rattle.holding.specs.Lock.{lockRefusal, lockState, lock}
 

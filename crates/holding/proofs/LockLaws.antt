@@ -11,7 +11,8 @@ use lib.ListN.{length, set, length-set}
 use borrow.Author.Tests.{ltb-false}
 use Rattle.base.specs.Sums.{sumTo}
 use Rattle.base.proofs.ChoiceLaws.{or-left, or-right}
-use Rattle.state.specs.Layout.{stateWords, interties, holders, stageOf, step7TotalOf, reservedOf, unassignedOf, unplacedOf, placedOf, takenOf, lockedAt, lockedOf, termAt, termOf, onIntertie, ofHolder}
+use Rattle.base.specs.Limits.{stateWords}
+use Rattle.state.specs.Layout.{interties, holders, stageOf, step7TotalOf, reservedOf, unassignedOf, unplacedOf, placedOf, takenOf, lockedAt, lockedOf, termAt, termOf, onIntertie, ofHolder}
 use Rattle.state.specs.Orderly.{stateRefusal}
 use Rattle.state.proofs.OrderlyLaws.{Orderly, refusal-none}
 use Rattle.state.proofs.FrameLaws.{SameRows, SameOpening, same-trans, same-within, same-store-below, same-store-past, same-interties, same-pair, at-stored, at-apart, at-other-row, row-sum-stored, row-sum-apart}

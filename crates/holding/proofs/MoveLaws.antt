@@ -11,7 +11,8 @@ use lib.ListN.{length, set, length-set}
 use borrow.Author.Tests.{eqb-false, ltb-false}
 use Rattle.base.specs.Sums.{sumTo}
 use Rattle.base.proofs.ChoiceLaws.{or-left, or-right}
-use Rattle.state.specs.Layout.{stateWords, interties, holders, stageOf, unassignedOf, unplacedOf, placedAt, placedOf, takenOf, lockedOf, termOf, onIntertie, ofHolder}
+use Rattle.base.specs.Limits.{stateWords}
+use Rattle.state.specs.Layout.{interties, holders, stageOf, unassignedOf, unplacedOf, placedAt, placedOf, takenOf, lockedOf, termOf, onIntertie, ofHolder}
 use Rattle.state.specs.Orderly.{stateRefusal}
 use Rattle.state.proofs.OrderlyLaws.{Orderly, refusal-none, placed-most}
 use Rattle.state.proofs.FrameLaws.{SameRows, SameOpening, same-trans, same-within, same-store-below, same-store-past, same-holders, same-pair, at-other-row, column-sum-stored, column-sum-apart}

@@ -1,5 +1,6 @@
 // Placed kW in their holder's hands: moved to another holder, or locked for years to come.
 use base::Answer;
+use base::stages;
 use state::layout;
 ghost use mathlib.Core.Path.{_≡_};
 ghost use mathlib.Core.Bool.{not, _||_};
@@ -95,7 +96,7 @@ fn no_moves(state: &[u32]) -> bool
     ensures { λ r. ⌜ r ≡ not (eqb (stageOf (now (state .entry))) 3 || eqb (stageOf (now (state .entry))) 4) ⌝ }
 {
     let stage = call::stage(state);
-    !((stage == layout::SECOND_REQUESTS) | (stage == layout::OPEN))
+    !((stage == stages::SECOND_REQUESTS) | (stage == stages::OPEN))
 }
 
 // Number 8: whether a party is no holder, there is no such intertie, or both parties are one.

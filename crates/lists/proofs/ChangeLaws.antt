@@ -8,7 +8,8 @@ use native.Mathlib.Omega.{arith}
 use lib.ListN.{length}
 use Rattle.base.specs.Sums.{sumTo}
 use Rattle.base.proofs.SumLaws.{sumTo-add, sumTo-zeros}
-use Rattle.state.specs.Layout.{stateWords, interties, holders, step7TotalOf, reservedOf, unassignedOf, unplacedOf, lockedOf, ofHolder}
+use Rattle.base.specs.Limits.{stateWords}
+use Rattle.state.specs.Layout.{interties, holders, step7TotalOf, reservedOf, unassignedOf, unplacedOf, lockedOf, ofHolder}
 use Rattle.state.proofs.FrameLaws.{SameOpening, same-refl, same-trans, same-interties, same-holders}
 use Rattle.state.proofs.OrderlyLaws.{Orderly}
 

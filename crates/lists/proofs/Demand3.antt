@@ -16,7 +16,8 @@ use Rattle.steps.specs.Valid.{Valid}
 use Rattle.steps.specs.Step5to7.{held, reservedOn, step5Share, step7Total}
 use Rattle.steps.proofs.BoundLaws.{balance}
 use Rattle.steps.proofs.SheetValid.{valid-sheet}
-use Rattle.state.specs.Layout.{stateWords, place, interties, holders, unassignedOf, unplacedOf, lockedOf, ofHolder}
+use Rattle.base.specs.Limits.{stateWords}
+use Rattle.state.specs.Layout.{place, interties, holders, unassignedOf, unplacedOf, lockedOf, ofHolder}
 use Rattle.state.proofs.FrameLaws.{same-interties, same-holders}
 use Rattle.call.proofs.LadderLaws.{not-whenever}
 use Rattle.opening.specs.Opened.{openedState}

@@ -12,7 +12,7 @@ use lib.Seq.{getD-take, getD-drop}
 use Rattle.base.specs.Choice.{pick}
 use Rattle.base.specs.Words.{at}
 use Rattle.base.proofs.ChoiceLaws.{pick-true, and-left, and-right}
-use Rattle.state.specs.Layout.{stateWords}
+use Rattle.base.specs.Limits.{stateWords}
 use Rattle.state_rows.specs.Rows.{fillRow, fillPairs, fitRow, fitPairs}
 use Rattle.state_rows.proofs.RowLaws.{fillRow-same, fillPairs-same}
 use Rattle.state_rows.proofs.FitLaws.{FitRow, row-fits, FitPairs, pairs-fit}

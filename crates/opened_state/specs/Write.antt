@@ -7,7 +7,11 @@ use lib.ListN.{length, set}
 use Rattle.base.specs.Choice.{pick}
 use Rattle.base.specs.Words.{at}
 use Rattle.sheet_reading.specs.Tables.{limitSlot, outsideSlot, loadShareSlot, existingSlot}
-use Rattle.state.specs.Layout.{stateWords, intertiesAt, holdersAt, stageAt, lastDayAt}
+use Rattle.base.specs.Limits.{stateWords}
+use Rattle.base.specs.Stages.{tradingStage}
+use Rattle.state.specs.Layout.{intertiesAt, holdersAt, stageAt, lastDayAt}
+use Rattle.state.specs.Layout.{limitRow, outsideRow, loadShareRow, step5ShareRow, step7TotalRow, reservedRow, existingRow, preRaRow, newUseRow}
+use Rattle.state.specs.Layout.{unassignedRow, unplacedRow, sellersRow, lastWeekRow, takingsRow, placedRow, takenRow, lockedRow, termRow, pendingRow}
 use Rattle.state_rows.specs.Rows.{fillRow, fillPairs}
 
 -- the low 32 bits of a number
@@ -38,39 +42,39 @@ sizesWritten I H s = set (set s intertiesAt I) holdersAt H
 -- limits, outside rights, load shares, Step 5 shares, Step 7 totals, reserved
 abbrev pub figuresWritten : List ℕ → ℕ → ℕ → List ℕ → List ℕ → List ℕ → List ℕ → List ℕ
 figuresWritten kw I H shares totals held s =
-    fillRow 6 H (rowWords held)
-    (fillRow 5 H (rowWords totals)
-    (fillRow 4 H (rowWords shares)
-    (fillRow 3 H (λ h. low (at kw (loadShareSlot h)))
-    (fillRow 2 I (λ i. low (at kw (outsideSlot i)))
-    (fillRow 1 I (λ i. low (at kw (limitSlot i))) s)))))
+    fillRow reservedRow H (rowWords held)
+    (fillRow step7TotalRow H (rowWords totals)
+    (fillRow step5ShareRow H (rowWords shares)
+    (fillRow loadShareRow H (λ h. low (at kw (loadShareSlot h)))
+    (fillRow outsideRow I (λ i. low (at kw (outsideSlot i)))
+    (fillRow limitRow I (λ i. low (at kw (limitSlot i))) s)))))
 
 -- E
 abbrev pub existingWritten : List ℕ → ℕ → ℕ → List ℕ → List ℕ
-existingWritten kw I H s = fillPairs 7 H I (λ h i. low (at kw (existingSlot h i))) s
+existingWritten kw I H s = fillPairs existingRow H I (λ h i. low (at kw (existingSlot h i))) s
 
 -- E, P and N
 abbrev pub reservedWritten : List ℕ → ℕ → ℕ → List ℕ → List ℕ → List ℕ → List ℕ
 reservedWritten kw I H preRa newUse s =
-    fillPairs 71 H I (pairWords newUse) (fillPairs 39 H I (pairWords preRa) (existingWritten kw I H s))
+    fillPairs newUseRow H I (pairWords newUse) (fillPairs preRaRow H I (pairWords preRa) (existingWritten kw I H s))
 
 -- stage 1, no last day, unassigned and unplaced
 abbrev pub stageWritten : ℕ → ℕ → List ℕ → List ℕ → List ℕ → List ℕ
 stageWritten I H unassigned unplaced s =
-    fillRow 105 H (rowWords unplaced) (fillRow 104 I (rowWords unassigned) (set (set s stageAt 1) lastDayAt 0))
+    fillRow unplacedRow H (rowWords unplaced) (fillRow unassignedRow I (rowWords unassigned) (set (set s stageAt tradingStage) lastDayAt 0))
 
 -- no sellers, last week and takings
 abbrev pub rowsCleared : ℕ → List ℕ → List ℕ
-rowsCleared H s = fillRow 108 H (λ h. 0) (fillRow 107 H (λ h. 0) (fillRow 106 H (λ h. 0) s))
+rowsCleared H s = fillRow takingsRow H (λ h. 0) (fillRow lastWeekRow H (λ h. 0) (fillRow sellersRow H (λ h. 0) s))
 
 -- nothing placed, taken, locked or pending, and no lock term
 abbrev pub pairsCleared : ℕ → ℕ → List ℕ → List ℕ
 pairsCleared I H s =
-    fillPairs 237 H I (λ h i. 0)
-    (fillPairs 205 H I (λ h i. 0)
-    (fillPairs 173 H I (λ h i. 0)
-    (fillPairs 141 H I (λ h i. 0)
-    (fillPairs 109 H I (λ h i. 0) s))))
+    fillPairs pendingRow H I (λ h i. 0)
+    (fillPairs termRow H I (λ h i. 0)
+    (fillPairs lockedRow H I (λ h i. 0)
+    (fillPairs takenRow H I (λ h i. 0)
+    (fillPairs placedRow H I (λ h i. 0) s))))
 
 module _ (kw : List ℕ) (I H : ℕ) (shares totals held preRa newUse unassigned s : List ℕ) where
   -- the whole opened state

@@ -1,9 +1,10 @@
 // The opened state, written from the sheet's table of kilowatts and the steps' figures, group by group
 // in the order of its rows.
+use base::limits::STATE_WORDS;
+use base::stages;
 use sheet_reading::tables;
 use sheet_reading::tables::SLOTS;
 use state::layout;
-use state::layout::STATE_WORDS;
 ghost use mathlib.Core.Path.{_≡_};
 ghost use Prim.Native.Nat.{ℕ, _+_, _%_, _≤_, _<_};
 ghost use lib.ListN.{length};
@@ -110,7 +111,7 @@ fn write_stage(
     requires { ⌜ Sizes (now state) interties holders ⌝ }
     ensures { λ _. ⌜ now (state .exit) ≡ stageWritten interties holders (now (unassigned .entry)) (now (unplaced .entry)) (now (state .entry)) ⌝ }
 {
-    state::store(state, layout::YEAR, layout::STAGE, layout::TRADING);
+    state::store(state, layout::YEAR, layout::STAGE, stages::TRADING);
     state::store(state, layout::YEAR, layout::LAST_DAY, 0);
     state_rows::store_row(state, layout::UNASSIGNED as usize, interties, unassigned);
     state_rows::store_row(state, layout::UNPLACED as usize, holders, unplaced);

@@ -13,7 +13,7 @@ use Rattle.base.specs.Words.{at, tab, fill}
 use Rattle.base.proofs.ChoiceLaws.{pick-true, and-both}
 use Rattle.base.proofs.SumLaws.{sumTo-same, sumTo-add}
 use Rattle.base.proofs.WordLaws.{at-tab, length-tab, tab-same, at-fill}
-use Rattle.state.specs.Layout.{stateWords}
+use Rattle.base.specs.Limits.{stateWords}
 use Rattle.intertie_shares.specs.Pairs.{fillPairs}
 use Rattle.intertie_shares.proofs.PairLaws.{length-fillPairs, at-fillPairs}
 use Rattle.sheet_reading.specs.Tables.{existingSlot, loadShareSlot}

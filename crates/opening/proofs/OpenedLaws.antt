@@ -7,7 +7,8 @@ use native.Mathlib.Omega.{arith}
 use lib.Dec.{lit<, lit≤}
 use lib.ListN.{length, set, length-set}
 use Rattle.base.specs.Words.{at}
-use Rattle.state.specs.Layout.{stateWords, place, interties, holders, limitOf, outsideOf, loadShareOf, step5ShareOf, step7TotalOf, reservedOf, existingOf, preRaOf, newUseOf, stageOf, lastDayOf, unassignedOf, unplacedOf, sellersOf, lastWeekOf, takingsOf, placedOf, takenOf, lockedOf, termOf, pendingOf, intertiesAt, holdersAt, stageAt, lastDayAt}
+use Rattle.base.specs.Limits.{stateWords}
+use Rattle.state.specs.Layout.{place, interties, holders, limitOf, outsideOf, loadShareOf, step5ShareOf, step7TotalOf, reservedOf, existingOf, preRaOf, newUseOf, stageOf, lastDayOf, unassignedOf, unplacedOf, sellersOf, lastWeekOf, takingsOf, placedOf, takenOf, lockedOf, termOf, pendingOf, intertiesAt, holdersAt, stageAt, lastDayAt}
 use Rattle.state.proofs.FrameLaws.{at-stored, at-other-column, SameRows, same-refl, same-trans, same-within, same-store-past}
 use Rattle.state_rows.specs.Rows.{fillRow, fillPairs}
 use Rattle.state_rows.proofs.RowLaws.{length-fillRow, at-fillRow, same-fillRow-past, length-fillPairs, at-fillPairs, same-fillPairs-past}

@@ -13,7 +13,7 @@ use Rattle.base.specs.Sums.{sumTo}
 use Rattle.base.specs.Answers.{refused, granted}
 use Rattle.base.proofs.ChoiceLaws.{pick-false}
 use Rattle.base.proofs.SumLaws.{sumTo-same}
-use Rattle.state.specs.Layout.{stateWords}
+use Rattle.base.specs.Limits.{stateWords}
 use Rattle.sheet_records.specs.Sheet as Sheet
 use Rattle.sheet_records.specs.Refusal.{sheetRefusal}
 use Rattle.sheet_reading.specs.Tables.{kwTable, intertieTable, Filled, ReadSheet}

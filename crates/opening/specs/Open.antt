@@ -6,7 +6,7 @@ use lib.ListN.{length}
 use Rattle.base.specs.Choice.{pick}
 use Rattle.base.specs.Answers.{refused, granted}
 use Rattle.base.specs.declared.Answer.{Answer}
-use Rattle.state.specs.Layout.{stateWords}
+use Rattle.base.specs.Limits.{stateWords}
 use Rattle.sheet_records.specs.Refusal.{sheetRefusal}
 use Rattle.steps.specs.Inputs.{ofSheet}
 use Rattle.steps.specs.Step2.{availableTotal}

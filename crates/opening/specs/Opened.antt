@@ -2,7 +2,10 @@
 use Prim.Native.Nat.{ℕ}
 use mathlib.Core.List.{List}
 use lib.ListN.{set}
+use Rattle.base.specs.Stages.{tradingStage}
 use Rattle.state.specs.Layout.{intertiesAt, holdersAt, stageAt, lastDayAt}
+use Rattle.state.specs.Layout.{limitRow, outsideRow, loadShareRow, step5ShareRow, step7TotalRow, reservedRow, existingRow, preRaRow, newUseRow}
+use Rattle.state.specs.Layout.{unassignedRow, unplacedRow, sellersRow, lastWeekRow, takingsRow, placedRow, takenRow, lockedRow, termRow, pendingRow}
 use Rattle.state_rows.specs.Rows.{fillRow, fillPairs}
 use Rattle.steps.specs.Inputs.{Inputs}
 use Rattle.steps.specs.Step4a.{preRaGranted}
@@ -27,32 +30,32 @@ module _ (y : Inputs) where
   -- limits and outside rights; load shares, Step 5 shares, Step 7 totals and reserved
   unfoldable pub figureWords : List ℕ → List ℕ
   figureWords s =
-      perHolder 6 (held y)
-      (perHolder 5 (step7Total y)
-      (perHolder 4 (step5Share y)
-      (perHolder 3 (y .loadShare)
-      (perIntertie 2 (y .outside)
-      (perIntertie 1 (y .limit) s)))))
+      perHolder reservedRow (held y)
+      (perHolder step7TotalRow (step7Total y)
+      (perHolder step5ShareRow (step5Share y)
+      (perHolder loadShareRow (y .loadShare)
+      (perIntertie outsideRow (y .outside)
+      (perIntertie limitRow (y .limit) s)))))
 
   -- E, P and N
   unfoldable pub reservedWords : List ℕ → List ℕ
-  reservedWords s = perPair 71 (newUseGranted y) (perPair 39 (preRaGranted y) (perPair 7 (y .existing) s))
+  reservedWords s = perPair newUseRow (newUseGranted y) (perPair preRaRow (preRaGranted y) (perPair existingRow (y .existing) s))
 
   -- stage 1, no taking yet; unassigned = available - E - P - N, unplaced = Step 5 share
   unfoldable pub stageWords : List ℕ → List ℕ
-  stageWords s = perHolder 105 (step5Share y) (perIntertie 104 (unassigned y) (set (set s stageAt 1) lastDayAt 0))
+  stageWords s = perHolder unplacedRow (step5Share y) (perIntertie unassignedRow (unassigned y) (set (set s stageAt tradingStage) lastDayAt 0))
 
   -- the rest 0: sellers, last takings' weeks and takings; placed, taken, locked, lock terms and pending
   unfoldable pub clearedWords : List ℕ → List ℕ
   clearedWords s =
-      perPair 237 (λ h i. 0)
-      (perPair 205 (λ h i. 0)
-      (perPair 173 (λ h i. 0)
-      (perPair 141 (λ h i. 0)
-      (perPair 109 (λ h i. 0)
-      (perHolder 108 (λ h. 0)
-      (perHolder 107 (λ h. 0)
-      (perHolder 106 (λ h. 0) s)))))))
+      perPair pendingRow (λ h i. 0)
+      (perPair termRow (λ h i. 0)
+      (perPair lockedRow (λ h i. 0)
+      (perPair takenRow (λ h i. 0)
+      (perPair placedRow (λ h i. 0)
+      (perHolder takingsRow (λ h. 0)
+      (perHolder lastWeekRow (λ h. 0)
+      (perHolder sellersRow (λ h. 0) s)))))))
 
   unfoldable pub openedState : List ℕ → List ℕ
   openedState s = clearedWords (stageWords (reservedWords (figureWords (sizeWords s))))

@@ -3,10 +3,10 @@ mod figures;
 mod year;
 
 use base::Answer;
+use base::limits::STATE_WORDS;
 use sheet_reading::refusal;
 use sheet_reading::tables::SLOTS;
 use sheet_records::words;
-use state::layout::STATE_WORDS;
 ghost use mathlib.Core.Path.{_≡_};
 ghost use Rattle.opening.specs.Open.{opened};
 

@@ -13,7 +13,8 @@ use Rattle.base.specs.Choice.{pick}
 use Rattle.base.specs.Sums.{sumTo, allTo}
 use Rattle.base.proofs.ChoiceLaws.{and-both, same-test, and-left, and-right}
 use Rattle.base.proofs.SumLaws.{allTo-each, allTo-all, allTo-same}
-use Rattle.state.specs.Layout.{stateWords, interties, holders, loadShareOf, step5ShareOf, step7TotalOf, reservedOf, unplacedOf, sellersOf, takingsOf, placedOf, lockedOf, termOf, pendingOf, ofHolder, stageOf}
+use Rattle.base.specs.Limits.{stateWords}
+use Rattle.state.specs.Layout.{interties, holders, loadShareOf, step5ShareOf, step7TotalOf, reservedOf, unplacedOf, sellersOf, takingsOf, placedOf, lockedOf, termOf, pendingOf, ofHolder, stageOf}
 use Rattle.state.specs.Orderly.{orderly, sizesInRange, stageInRange, limitsInRange, loadSharesInRange, balanced, lockedWithinPlaced, pendingWithinUnplaced, kwInRange, takingsInRange, sellersAreHolders, termsFit, termFits, noRequests}
 use Rattle.orderly.specs.Check.{Sized, fieldsInRange, rowsInOrder, lockFits, pairLockFits, unlocked, mostPending}
 use Rattle.state.proofs.BaseMore.{fault, and-left-comm, allTo-both, allTo-pairs-both, four, tests-turn, or-none}

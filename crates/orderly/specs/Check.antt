@@ -8,7 +8,8 @@ use lib.ListN.{length}
 use Rattle.base.specs.Choice.{pick}
 use Rattle.base.specs.Sums.{sumTo, allTo}
 use Rattle.base.specs.Words.{at}
-use Rattle.state.specs.Layout.{stateWords, interties, holders, limitOf, outsideOf, existingOf, preRaOf, newUseOf, unassignedOf, unplacedOf, placedOf, takenOf, lockedOf, termOf}
+use Rattle.base.specs.Limits.{stateWords}
+use Rattle.state.specs.Layout.{interties, holders, limitOf, outsideOf, existingOf, preRaOf, newUseOf, unassignedOf, unplacedOf, placedOf, takenOf, lockedOf, termOf}
 use Rattle.state.specs.Orderly.{noRequests, termFits, limitsInRange, loadSharesInRange, balanced, lockedWithinPlaced, pendingWithinUnplaced, kwInRange, takingsInRange, sellersAreHolders, termsFit}
 
 -- a state long enough for its sizes, which are in range

@@ -4,6 +4,7 @@ use super::rows::holder_count;
 use super::rows::intertie_count;
 use super::rows::row_within;
 use super::rows::row_word;
+use base::limits;
 use state::layout;
 use std::num::wrapping_add_u32;
 ghost use mathlib.Core.Path.{_≡_};
@@ -16,6 +17,8 @@ ghost use Rattle.base.specs.Words.{at, fill};
 ghost use Rattle.state.specs.Layout.{interties, holders};
 ghost use Rattle.state.specs.Orderly.{limitsInRange, balanced};
 ghost use Rattle.orderly.specs.Check.{Sized, pairKw, pairFits, twoKw, twoFit, Cleared, Added, limitMet};
+
+const MOST_KW: u32 = limits::MOST_KW as u32;
 
 // 2^25: more than a limit may be.
 const TOO_MANY_KW: u32 = 33_554_432;
@@ -153,12 +156,7 @@ pub(super) fn limits_balance(state: &[u32]) -> bool
 {
     let mut sums = [0u32; 48];
     let bits = add_holders(state, &mut sums);
-    row_within(
-        state,
-        layout::LIMIT,
-        intertie_count(state),
-        layout::MOST_LIMIT_KW,
-    )
+    row_within(state, layout::LIMIT, intertie_count(state), MOST_KW)
         & (bits < TOO_MANY_KW)
         & limits_met(state, &sums)
 }

@@ -2,11 +2,21 @@
 use super::rows::holder_count;
 use super::rows::row_sum;
 use super::rows::row_within;
+use base::limits;
+use base::stages;
 use state::layout;
 ghost use mathlib.Core.Path.{_≡_};
 ghost use mathlib.Core.Bool.{_&&_};
 ghost use Rattle.state.specs.Orderly.{sizesInRange, stageInRange};
 ghost use Rattle.orderly.specs.Check.{Sized, fieldsInRange};
+
+const MOST_INTERTIES: u32 = limits::MOST_INTERTIES as u32;
+
+const MOST_HOLDERS: u32 = limits::MOST_HOLDERS as u32;
+
+const MOST_LOAD_SHARE: u32 = limits::MOST_LOAD_SHARE as u32;
+
+const MOST_TOTAL_KW: u32 = limits::MOST_TOTAL_KW as u32;
 
 // Sizes and stage.
 pub(super) fn sizes_in_range(state: &[u32]) -> bool
@@ -16,10 +26,10 @@ pub(super) fn sizes_in_range(state: &[u32]) -> bool
     let holders = state::word(state, layout::SIZES, layout::HOLDERS);
     let stage = state::word(state, layout::YEAR, layout::STAGE);
     let sizes = (1 <= interties)
-        & (interties <= layout::MOST_INTERTIES)
+        & (interties <= MOST_INTERTIES)
         & (1 <= holders)
-        & (holders <= layout::MOST_HOLDERS);
-    sizes & ((1 <= stage) & (stage <= layout::MOST_STAGE))
+        & (holders <= MOST_HOLDERS);
+    sizes & ((stages::TRADING <= stage) & (stage <= stages::OPEN))
 }
 
 // The fields of the holders.
@@ -29,11 +39,11 @@ pub(super) fn fields_in_range(state: &[u32]) -> bool
 {
     let holders = holder_count(state) as usize;
     let most_sellers: u32 = 0xffff_ffff >> (32 - holders);
-    row_within(state, layout::LOAD_SHARE, holders, layout::MOST_LOAD_SHARE)
-        & (row_sum(state, layout::UNPLACED, holders) <= layout::MOST_UNPLACED_KW)
-        & row_within(state, layout::STEP_5_SHARE, holders, layout::MOST_HOLDER_KW)
-        & row_within(state, layout::STEP_7_TOTAL, holders, layout::MOST_HOLDER_KW)
-        & row_within(state, layout::RESERVED, holders, layout::MOST_HOLDER_KW)
-        & row_within(state, layout::TAKINGS, holders, layout::MOST_TAKINGS)
+    row_within(state, layout::LOAD_SHARE, holders, MOST_LOAD_SHARE)
+        & (row_sum(state, layout::UNPLACED, holders) <= limits::MOST_TOTAL_KW)
+        & row_within(state, layout::STEP_5_SHARE, holders, MOST_TOTAL_KW)
+        & row_within(state, layout::STEP_7_TOTAL, holders, MOST_TOTAL_KW)
+        & row_within(state, layout::RESERVED, holders, MOST_TOTAL_KW)
+        & row_within(state, layout::TAKINGS, holders, limits::MOST_TAKINGS)
         & row_within(state, layout::SELLERS, holders, most_sellers)
 }

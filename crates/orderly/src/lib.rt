@@ -5,7 +5,7 @@ mod locks;
 mod pending;
 mod rows;
 
-use state::layout::STATE_WORDS;
+use base::limits::STATE_WORDS;
 ghost use mathlib.Core.Path.{_≡_};
 ghost use Prim.Native.Nat.{_≤_};
 ghost use lib.ListN.{length};

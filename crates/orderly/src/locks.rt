@@ -2,6 +2,8 @@
 use super::rows::holder_count;
 use super::rows::intertie_count;
 use super::rows::row_word;
+use base::limits;
+use base::stages;
 use state::layout;
 ghost use mathlib.Core.Path.{_≡_};
 ghost use mathlib.Core.Bool.{_&&_};
@@ -18,7 +20,7 @@ ghost use Rattle.orderly.specs.Check.{Sized, lockFits, pairLockFits, unl
 fn lock_fault(placed: u32, locked: u32, term: u32) -> u32
     ensures { λ r. ⌜ r ≡ pick {A = ℕ} (lockFits placed locked term) 0 1 ⌝ }
 {
-    if (locked <= placed) & (term <= layout::MOST_TERM_YEARS) & ((locked == 0) == (term == 0)) {
+    if (locked <= placed) & (term <= limits::MOST_YEARS) & ((locked == 0) == (term == 0)) {
         return 0;
     }
     1
@@ -67,7 +69,7 @@ fn holder_locks_in_order(state: &[u32], holder: u32) -> bool
     requires { ⌜ Sized (now state) × (holder < 32) ⌝ }
     ensures { λ r. ⌜ r ≡ allTo (interties (now (state .entry))) (λ (i : ℕ). pairLockFits (now (state .entry)) holder i) ⌝ }
 {
-    if state::word(state, layout::YEAR, layout::STAGE) != layout::OPEN {
+    if state::word(state, layout::YEAR, layout::STAGE) != stages::OPEN {
         if has_no_lock(state, holder) {
             return true;
         }

@@ -4,6 +4,7 @@ use super::rows::intertie_count;
 use super::rows::row_is_clear;
 use super::rows::row_sum;
 use super::rows::row_word;
+use base::stages;
 use state::layout;
 ghost use mathlib.Core.Path.{_≡_};
 ghost use Prim.Native.Nat.{_≤_, _<_};
@@ -19,7 +20,7 @@ fn most_pending(state: &[u32], holder: u32) -> u64
     ensures { λ r. ⌜ r ≡ mostPending (now (state .entry)) holder ⌝ }
 {
     let stage = state::word(state, layout::YEAR, layout::STAGE);
-    if (stage == layout::TRADING) | (stage == layout::OPEN) {
+    if (stage == stages::TRADING) | (stage == stages::OPEN) {
         return 0;
     }
     row_word(state, layout::UNPLACED, holder as usize) as u64

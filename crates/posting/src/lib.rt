@@ -2,8 +2,8 @@
 mod lines;
 
 use base::Answer;
+use base::limits::STATE_WORDS;
 use state::layout;
-use state::layout::STATE_WORDS;
 ghost use mathlib.Core.Path.{_≡_};
 ghost use Rattle.posting.specs.Post.{posted};
 

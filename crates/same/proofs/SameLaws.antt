@@ -12,7 +12,8 @@ use Rattle.base.specs.Sums.{allTo}
 use Rattle.base.specs.Words.{at}
 use Rattle.base.specs.declared.Answer.{Answer}
 use Rattle.base.proofs.SumLaws.{allTo-each, allTo-all}
-use Rattle.state.specs.Layout.{stateWords, place, interties, holders}
+use Rattle.base.specs.Limits.{stateWords}
+use Rattle.state.specs.Layout.{place, interties, holders}
 use Rattle.sheet_records.specs.Refusal.{sheetRefusal}
 use Rattle.steps.specs.Inputs.{Inputs, ofSheet}
 use Rattle.steps.proofs.SheetValid.{valid-sheet}

@@ -7,7 +7,7 @@ use lib.ListN.{replicate}
 use Rattle.base.specs.Choice.{pick}
 use Rattle.base.specs.Sums.{allTo}
 use Rattle.base.specs.Words.{at}
-use Rattle.state.specs.Layout.{stateWords}
+use Rattle.base.specs.Limits.{stateWords}
 use Rattle.sheet_records.specs.Refusal.{sheetRefusal}
 use Rattle.steps.specs.Inputs.{ofSheet}
 use Rattle.opening.specs.Opened.{openedState}

@@ -1,5 +1,5 @@
 // Same: whether two sheets open to the same year (document 01, "Beside the year").
-use state::layout::STATE_WORDS;
+use base::limits::STATE_WORDS;
 ghost use mathlib.Core.Path.{_≡_};
 ghost use Prim.Native.Nat.{ℕ, _<_};
 ghost use lib.Dec.{eqb};

@@ -9,7 +9,8 @@ use lib.Seq.{getD-set-same, getD-set-other}
 use Rattle.base.specs.Sums.{sumTo}
 use Rattle.base.specs.Words.{at}
 use Rattle.base.proofs.SumLaws.{sumTo-same}
-use Rattle.state.specs.Layout.{stateWords, place, firstWritten, interties, holders}
+use Rattle.base.specs.Limits.{stateWords}
+use Rattle.state.specs.Layout.{place, firstWritten, interties, holders}
 use Rattle.state.proofs.BaseMore.{sumTo-change}
 
 -- another row or another column is another place

@@ -12,7 +12,8 @@ use Rattle.base.specs.Choice.{pick}
 use Rattle.base.specs.Sums.{sumTo, allTo}
 use Rattle.base.proofs.SumLaws.{sumTo-term, sumTo-none}
 use Rattle.base.proofs.ChoiceLaws.{and-both, and-left, and-right}
-use Rattle.state.specs.Layout.{stateWords, interties, holders, limitOf, loadShareOf, step5ShareOf, step7TotalOf, reservedOf, stageOf, unassignedOf, unplacedOf, sellersOf, takingsOf, placedOf, takenOf, lockedOf, termOf, pendingOf, ofHolder}
+use Rattle.base.specs.Limits.{stateWords}
+use Rattle.state.specs.Layout.{interties, holders, limitOf, loadShareOf, step5ShareOf, step7TotalOf, reservedOf, stageOf, unassignedOf, unplacedOf, sellersOf, takingsOf, placedOf, takenOf, lockedOf, termOf, pendingOf, ofHolder}
 use Rattle.state.specs.Orderly.{orderly, sizesInRange, stageInRange, limitsInRange, loadSharesInRange, balanced, lockedWithinPlaced, pendingWithinUnplaced, kwInRange, takingsInRange, sellersAreHolders, termsFit, termFits, intertieKw, noRequests, stateRefusal}
 use Rattle.state.proofs.BaseMore.{four, all-four, each-le, all-le, each-eq, all-eq, each-pair, all-pairs}
 

@@ -1,11 +1,10 @@
-// Where each word of the year's state stands, and how large it may be.
+// Where each word of the year's state stands (docs/RULES.md, "The year's state"). Each number is named here once;
+// specs/Layout has the same.
 //
-// The words stand in rows of 48; a constant is the number of a row. A row has a field of the
-// interties or of the holders. A field of the pairs has a row for each holder, 32 in all, and its
-// constant is the first.
-
-// The words that a state has at least.
-pub const STATE_WORDS: usize = 16_000;
+// The words stand in rows of 48; a constant is the number of a row, or of a column where it says so. A row has a field of
+// the interties or of the holders. A field of the pairs has a row for each holder, 32 in all, and its constant is the first.
+use base::limits::MOST_HOLDERS;
+use base::limits::STATE_WORDS;
 
 // The words of a row.
 pub const ROW_WORDS: usize = 48;
@@ -70,32 +69,8 @@ pub const TERM: u32 = 205;
 
 pub const PENDING: u32 = 237;
 
-// The stages.
-pub const TRADING: u32 = 1;
+// The last row that a field may begin at: that of the pairs' field after pending, which is kept free.
+pub const LAST_ROW: usize = (PENDING as usize) + 2 * MOST_HOLDERS - 1;
 
-pub const FIRST_REQUESTS: u32 = 2;
-
-pub const SECOND_REQUESTS: u32 = 3;
-
-pub const OPEN: u32 = 4;
-
-// The most of each.
-pub const MOST_INTERTIES: u32 = 48;
-
-pub const MOST_HOLDERS: u32 = 32;
-
-pub const MOST_STAGE: u32 = 4;
-
-pub const MOST_LIMIT_KW: u32 = 20_000_000;
-
-pub const MOST_LOAD_SHARE: u32 = 100_000_000;
-
-pub const MOST_TAKINGS: u32 = 2;
-
-pub const MOST_TERM_YEARS: u32 = 30;
-
-// The most of a holder's Step 5 share, Step 7 total and reserved.
-pub const MOST_HOLDER_KW: u32 = 960_000_000;
-
-// The most unplaced, all holders together.
-pub const MOST_UNPLACED_KW: u64 = 960_000_000;
+// The rows that a state of 16,000 words has whole.
+pub const WHOLE_ROWS: usize = STATE_WORDS / ROW_WORDS;

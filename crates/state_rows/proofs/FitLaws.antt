@@ -5,7 +5,7 @@ use mathlib.Core.Bool.{Bool, true, _&&_}
 use lib.Dec.{leb, ltb}
 use borrow.Author.Tests.{leb-true, ltb-true, le-leb, lt-ltb}
 use Rattle.base.proofs.ChoiceLaws.{and-left, and-right, and-both}
-use Rattle.state.specs.Layout.{stateWords}
+use Rattle.base.specs.Limits.{stateWords}
 use Rattle.state_rows.specs.Rows.{fitRow, fitField, fitPairs}
 
 pub record FitRow (words row n values : ℕ) : Type 0 where

@@ -9,7 +9,8 @@ use native.Mathlib.Omega.{arith}
 use lib.ListN.{length, set, length-set}
 use Rattle.base.specs.Words.{at}
 use Rattle.base.proofs.SumLaws.{below-suc}
-use Rattle.state.specs.Layout.{stateWords, place}
+use Rattle.base.specs.Limits.{stateWords}
+use Rattle.state.specs.Layout.{place}
 use Rattle.state.proofs.FrameLaws.{at-stored, at-other-row, at-other-column, SameRows, same-refl, same-trans}
 use Rattle.state_rows.specs.Rows.{fillRow, fillPairs}
 

@@ -4,7 +4,8 @@ use mathlib.Core.List.{List}
 use mathlib.Core.Bool.{Bool, _&&_}
 use lib.Dec.{leb, ltb}
 use lib.ListN.{set}
-use Rattle.state.specs.Layout.{stateWords, place}
+use Rattle.base.specs.Limits.{stateWords}
+use Rattle.state.specs.Layout.{place}
 
 -- s with f c at column c of a row, for each c below n
 unfoldable pub fillRow : ℕ → ℕ → (ℕ → ℕ) → List ℕ → List ℕ

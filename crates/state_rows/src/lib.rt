@@ -1,6 +1,6 @@
 // Whole rows of the year's state, written at once.
+use base::limits::STATE_WORDS;
 use state::layout::ROW_WORDS;
-use state::layout::STATE_WORDS;
 ghost use mathlib.Core.Path.{_≡_};
 ghost use Prim.Native.Nat.{ℕ, _+_, _*_, _%_, _≤_, _<_};
 ghost use lib.ListN.{length};

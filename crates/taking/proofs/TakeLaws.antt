@@ -13,7 +13,8 @@ use Rattle.base.specs.Sums.{sumTo}
 use Rattle.base.specs.Words.{at}
 use Rattle.base.proofs.ChoiceLaws.{or-left, or-right}
 use Rattle.base.proofs.SumLaws.{sumTo-same}
-use Rattle.state.specs.Layout.{stateWords, place, interties, holders, stageOf, lastDayAt, lastDayOf, unassignedAt, unassignedOf, unplacedOf, lastWeekAt, lastWeekOf, takingsAt, takingsOf, placedOf, takenAt, takenOf, lockedOf, termOf, onIntertie, ofHolder}
+use Rattle.base.specs.Limits.{stateWords}
+use Rattle.state.specs.Layout.{place, interties, holders, stageOf, lastDayAt, lastDayOf, unassignedAt, unassignedOf, unplacedOf, lastWeekAt, lastWeekOf, takingsAt, takingsOf, placedOf, takenAt, takenOf, lockedOf, termOf, onIntertie, ofHolder}
 use Rattle.state.specs.Orderly.{stateRefusal}
 use Rattle.state.proofs.OrderlyLaws.{Orderly, refusal-none, taken-most}
 use Rattle.state.proofs.FrameLaws.{SameRows, SameOpening, same-holders, same-pair, at-stored, at-other-row, at-other-column, column-sum-stored, column-sum-apart}

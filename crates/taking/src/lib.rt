@@ -1,5 +1,6 @@
 // Takings of unassigned kW in stage 4, at most two of a holder in a week.
 use base::Answer;
+use base::limits;
 use state::layout;
 ghost use mathlib.Core.Path.{_≡_};
 ghost use Prim.Native.Nat.{_+_, _-_, _<_, _≤_, _^_};
@@ -31,7 +32,7 @@ impl Calendar {
     fn refuses(self, day: u32) -> bool
         ensures { λ r. ⌜ r ≡ dayRefused self day ⌝ }
     {
-        (day < self.last_day) | (layout::MOST_TAKINGS <= self.count_in(day / WEEK_DAYS))
+        (day < self.last_day) | (limits::MOST_TAKINGS <= self.count_in(day / WEEK_DAYS))
     }
 
     // The calendar after a taking on a day.

@@ -13,7 +13,8 @@ use Rattle.base.specs.Sums.{sumTo}
 use Rattle.base.specs.Answers.{refused, granted}
 use Rattle.base.proofs.ChoiceLaws.{or-left, or-right, same-test}
 use Rattle.base.proofs.SumLaws.{sumTo-same}
-use Rattle.state.specs.Layout.{stateWords, interties, holders, stageOf, unplacedOf, sellersOf, pendingOf, ofHolder}
+use Rattle.base.specs.Limits.{stateWords}
+use Rattle.state.specs.Layout.{interties, holders, stageOf, unplacedOf, sellersOf, pendingOf, ofHolder}
 use Rattle.state.specs.Orderly.{stateRefusal}
 use Rattle.state.proofs.FrameLaws.{at-stored, SameRows, same-within, same-store-past, row-sum-stored, row-sum-apart}
 use Rattle.state.proofs.OrderlyLaws.{Orderly, refusal-none}

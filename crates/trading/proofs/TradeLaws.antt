@@ -13,7 +13,8 @@ use Rattle.base.specs.Choice.{pick}
 use Rattle.base.specs.Sums.{sumTo}
 use Rattle.base.specs.Answers.{refused, granted}
 use Rattle.base.proofs.ChoiceLaws.{or-left, or-right}
-use Rattle.state.specs.Layout.{stateWords, interties, holders, stageOf, unplacedAt, unplacedOf, sellersAt, sellersOf, pendingOf}
+use Rattle.base.specs.Limits.{stateWords}
+use Rattle.state.specs.Layout.{interties, holders, stageOf, unplacedAt, unplacedOf, sellersAt, sellersOf, pendingOf}
 use Rattle.state.specs.Orderly.{stateRefusal}
 use Rattle.state.proofs.FrameLaws.{at-stored, at-other-row, at-other-column, SameRows, same-trans, same-within, same-store-below, same-store-past, same-of-holder, row-sum-stored, row-sum-apart}
 use Rattle.state.proofs.OrderlyLaws.{Orderly, refusal-none}

@@ -1,6 +1,7 @@
 // Trade and request: how unplaced kilowatts pass from holder to holder, and how they are asked for
 // on an intertie (document 01, "Calls of the year").
 use base::Answer;
+use base::stages;
 use state::layout;
 ghost use mathlib.Core.Path.{_≡_};
 ghost use mathlib.Core.Bool.{not, _||_};
@@ -85,7 +86,7 @@ fn request_refusal(state: &[u32], holder: u32, intertie: u32, kw: u64) -> u32
 fn no_trades(state: &[u32]) -> bool
     ensures { λ r. ⌜ r ≡ not (eqb (stageOf (now (state .entry))) 1) ⌝ }
 {
-    call::stage(state) != layout::TRADING
+    call::stage(state) != stages::TRADING
 }
 
 // Number 7: whether the stage has no requests.
@@ -93,7 +94,7 @@ fn no_requests(state: &[u32]) -> bool
     ensures { λ r. ⌜ r ≡ not (eqb (stageOf (now (state .entry))) 2 || eqb (stageOf (now (state .entry))) 3) ⌝ }
 {
     let stage = call::stage(state);
-    !((stage == layout::FIRST_REQUESTS) | (stage == layout::SECOND_REQUESTS))
+    !((stage == stages::FIRST_REQUESTS) | (stage == stages::SECOND_REQUESTS))
 }
 
 // Number 8: whether a party of a trade is no holder, or both are one.

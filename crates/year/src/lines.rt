@@ -1,12 +1,12 @@
 // Lines on standard output. Each function answers whether its lines were written. Where they were not, standard
 // error says why.
 use base::encoding::ANSWER_WORDS;
+use base::limits::STATE_WORDS;
 use closing::GRANTS_WORDS;
 use control_room::ANSWERS_WORDS;
 use control_room::CALLS_WORDS;
 use libc::STDOUT_FILENO;
 use state::layout;
-use state::layout::STATE_WORDS;
 use text::LINE_BYTES;
 
 fn print(label: &[u8], figures: &[u64]) -> bool {

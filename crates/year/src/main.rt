@@ -6,10 +6,10 @@ mod lines;
 mod next;
 mod running;
 
+use base::limits::STATE_WORDS;
 use control_room::ANSWERS_WORDS;
 use control_room::CALLS_WORDS;
 use input::Read;
-use state::layout::STATE_WORDS;
 ghost use Prim.Native.Nat.{_≤_};
 
 // The arguments: the names of the sheet, of the journal and, where there is a third, of the sheet that

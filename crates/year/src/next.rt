@@ -1,8 +1,8 @@
 // Next year's sheet, written by carry to the file that the third argument names.
 use super::NEXT_SHEET;
 use super::faults;
+use base::limits::STATE_WORDS;
 use sheet_records::words;
-use state::layout::STATE_WORDS;
 ghost use Prim.Native.Nat.{_≤_};
 
 // The longest sheet.
