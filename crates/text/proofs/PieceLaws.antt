@@ -1,14 +1,14 @@
 -- Where the first separator stands, and the pieces of a text.
-use Prim.Native.Nat.{ℕ, zero, suc, _+_, _≤_, _<_, zero-le}
-use mathlib.Core.Path.{_≡_, refl}
+use Prim.Native.Nat.{ℕ, zero, suc, _+_, _-_, _≤_, _<_, zero-le}
+use mathlib.Core.Path.{_≡_, refl, ap, _∙_}
 use mathlib.Core.Bool.{Bool, true, false}
 use mathlib.Core.Logic.{_≢_}
 use mathlib.Core.List.{List, [], _∷_}
 use native.Mathlib.Numerals.{add-one}
 use native.Mathlib.Omega.{arith}
 use lib.Dec.{eqb, ltb, leb·suc-suc}
-use lib.ListN.{length, take, drop}
-use lib.Seq.{drop-cons}
+use lib.ListN.{length, take, drop, length-drop}
+use lib.Seq.{drop-cons, take-all}
 use borrow.Author.Tests.{eqb-true, eqb-false, eq-eqb, ne-eqb, lt-ltb}
 use Rattle.base.specs.Choice.{pick}
 use Rattle.base.specs.Words.{at}
@@ -94,3 +94,20 @@ fields-is separator (byte ∷ text) =
     by-test (eqb byte separator)
     (λ e. rw (e, lt-ltb 0 (suc (length text)) (omega arith)) refl)
     (λ e. rw (e, fields-is separator text, leb·suc-suc (suc (before separator text)) (length text)) refl)
+
+-- what `piece_end` answers, from a place within the text and from one past it
+abbrev pub Ends : (separator from : ℕ) (text : List ℕ) (end : ℕ) → Type 0
+Ends separator from text end =
+    (end ≡ from + before separator (drop from text)) × (from ≤ end) × (end ≤ from + (length text - from))
+
+pub piece-within : (separator from size : ℕ) (text : List ℕ) → from ≤ length text →
+    size ≡ before separator (take (length text - from) (drop from text)) → Ends separator from text (from + size)
+piece-within separator from size text inside s =
+    let is : size ≡ before separator (drop from text) =
+    s ∙ ap (before separator) (take-all (length text - from) (drop from text) (omega (arith, length-drop from text))) in
+    (ap (λ (k : ℕ). from + k) is, omega arith, omega (arith, before-le separator (drop from text), length-drop from text))
+
+pub piece-past : (separator from : ℕ) (text : List ℕ) → length text < from → Ends separator from text from
+piece-past separator from text past =
+    let none : before separator (drop from text) ≤ 0 = omega (arith, before-le separator (drop from text), length-drop from text) in
+    (omega arith, omega arith, omega arith)

@@ -3,7 +3,7 @@ use Prim.Native.Nat.{ℕ, _+_, _≤_, _<_}
 use mathlib.Core.Path.{_≡_, refl, sym, ap, _∙_}
 use mathlib.Core.List.{List, [], _∷_, _++_}
 use native.Mathlib.Omega.{arith}
-use lib.ListN.{length, length-append, take}
+use lib.ListN.{length, length-append, take, set}
 use lib.Seq.{length-take-le}
 use Rattle.base.specs.Words.{at}
 use Rattle.io.specs.Counts.{Counts}
@@ -13,7 +13,7 @@ use Rattle.text.specs.Written.{written, PutWithin}
 use Rattle.text.specs.Decimal.{decimal}
 use Rattle.text.specs.Lines.{lineEnd, figure, figuresOf, lineOf, boundedLine}
 use Rattle.text.proofs.WrittenLaws.{written-none, written-then, length-written}
-use Rattle.text.proofs.LineLaws.{length-line, figures-turn, line-stands, label-over, figures-over}
+use Rattle.text.proofs.LineLaws.{length-figure, length-line, figures-turn, line-stands, label-over, figures-over}
 use Rattle.text.proofs.DecimalLaws.{spelled-is}
 
 -- a text from a place on, and the place after it
@@ -30,6 +30,11 @@ fits-put place next text l m fit p = rw (le-leb (place + length text) (length l)
 pub no-room : (place : ℕ) (text l : List ℕ) → length l < place + length text → PutWithin place text place l l
 no-room place text l over = rw (lt-leb (place + length text) (length l) over) (refl, refl)
 
+-- a byte
+pub byte-put : (place byte : ℕ) (l : List ℕ) → place < length l → PutWithin place (byte ∷ []) (place + 1) l (set l place byte)
+unfolding written
+byte-put place byte l fit = fits-put place (place + 1) (byte ∷ []) l (set l place byte) (omega arith) (refl, refl)
+
 -- one text after another
 pub put-then : (place next after : ℕ) (t u l m n : List ℕ) → Put place t next l m → Put next u after m n → Put place (t ++ u) after l n
 put-then place next after t u l m n first second =
@@ -45,6 +50,21 @@ figure-put separator number count place next after text l m n most fewest spelle
     let same : take count text ≡ decimal number = spelled-is number count (take count text) most fewest spelled in
     put-then place next after (separator ∷ []) (decimal number) l m n first
     (omega (arith, second .0, ap length same), second .1 ∙ ap (λ (t : List ℕ). written next t m) same)
+
+-- a separator and the fewest digits, in bytes
+pub length-figure-is : (separator number count : ℕ) (text : List ℕ) → number ≤ 18446744073709551615 →
+    Fewest 10 1 number count → take count text ≡ digits 10 count number → count ≡ length (take count text) →
+    length (figure separator number) ≡ count + 1
+unfolding figure
+length-figure-is separator number count text most fewest spelled whole =
+    let same : take count text ≡ decimal number = spelled-is number count (take count text) most fewest spelled in
+    omega (arith, ap length same)
+
+-- a figure that there is room for
+pub figure-fits : (separator number place next : ℕ) (l m : List ℕ) → place + 21 ≤ length l →
+    PutWithin place (figure separator number) next l m → Put place (figure separator number) next l m
+figure-fits separator number place next l m fit p =
+    put-fits place next (figure separator number) l m (omega (arith, length-figure separator number)) p
 
 -- a loop that writes figures: before the first turn, and a turn
 pub figures-none : (separator place : ℕ) (l : List ℕ) → Put place (figuresOf separator []) place l l

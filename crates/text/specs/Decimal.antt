@@ -38,4 +38,5 @@ value (byte ∷ text) = (byte - digit 0) * 10 ^ length text + value text
 
 -- what a text is as a number of 32 bits: Bad where it is empty or has a byte that is no digit, Over from 2 ^ 32 on
 unfoldable pub numberOf : List ℕ → Number
-numberOf text = pick (ltb 0 (length text) && allDigits text) (pick (ltb (value text) (2 ^ 32)) (Value (value text)) Over) Bad
+numberOf text =
+    pick (ltb 0 (length text) && allDigits text) (pick (ltb (value text) (2 ^ 32)) (Value (value text)) Over) Bad

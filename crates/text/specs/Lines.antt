@@ -8,11 +8,25 @@ use lib.ListN.{length}
 use Rattle.base.specs.Choice.{pick}
 use Rattle.text.specs.Decimal.{decimal}
 
+-- the bytes between figures and at the end of a line
 abbrev pub blank : ℕ
 blank = code " "
 
 abbrev pub lineEnd : ℕ
 lineEnd = code "\n"
+
+-- the most bytes of a label, figures of a line, bytes of a figure with its separator, and bytes of a line
+abbrev pub labelBytes : ℕ
+labelBytes = 20
+
+abbrev pub lineFigures : ℕ
+lineFigures = 8
+
+abbrev pub figureBytes : ℕ
+figureBytes = 21
+
+abbrev pub lineBytes : ℕ
+lineBytes = 189
 
 -- a separator and a number
 unfoldable pub figure : ℕ → ℕ → List ℕ
@@ -27,7 +41,7 @@ figuresOf separator (n ∷ numbers) = figure separator n ++ figuresOf separator 
 unfoldable pub lineOf : List ℕ → ℕ → List ℕ → List ℕ
 lineOf label separator numbers = label ++ figuresOf separator numbers ++ (lineEnd ∷ [])
 
--- a line of at most 20 bytes of label and 8 figures; no text where there is more
+-- a line of at most so much label and so many figures; no text where there is more
 unfoldable pub boundedLine : List ℕ → ℕ → List ℕ → List ℕ
 boundedLine label separator numbers =
-    pick (leb (length label) 20 && leb (length numbers) 8) (lineOf label separator numbers) []
+    pick (leb (length label) labelBytes && leb (length numbers) lineFigures) (lineOf label separator numbers) []

@@ -1,4 +1,4 @@
-// Numbers and pieces of text in bytes.
+// Numbers and pieces of text in bytes: split, compared, read and written.
 mod comparing;
 mod pieces;
 mod reading;
@@ -6,8 +6,11 @@ mod writing;
 
 pub use comparing::same;
 pub use pieces::before;
+pub use pieces::piece_end;
 pub use reading::read_number;
 pub use writing::line;
+pub use writing::put;
+pub use writing::put_figure;
 pub use writing::put_within;
 
 // A line has a label of at most 20 bytes, at most 8 figures of at most 20 digits, each after a

@@ -1,5 +1,5 @@
 -- `put_figures` meets its contract: after i turns the first i figures are written.
-use Prim.Native.Nat.{ℕ, _-_, _≤_}
+use Prim.Native.Nat.{ℕ, _+_, _-_, _≤_}
 use mathlib.Core.Path.{_≡_, refl, subst}
 use mathlib.Core.List.{List}
 use native.Mathlib.Omega.{arith}
@@ -9,7 +9,7 @@ use denote.Ref.{now}
 use Rattle.base.specs.Words.{at}
 use Rattle.text.specs.Lines.{figuresOf}
 use Rattle.text.proofs.LineLaws.{length-figures}
-use Rattle.text.proofs.PutLaws.{Put, figures-none, put-figures-turn}
+use Rattle.text.proofs.PutLaws.{Put, figure-fits, figures-none, put-figures-turn}
 use Rattle.text.proofs.writing.put_figures.Statement.{statement}
 use Rattle.text.proofs.writing.put_figures.Tie as tie
 use Rattle.text.proofs.writing.put_figure.Reads as put-figure-reads
@@ -24,24 +24,24 @@ abbrev μ-loop : tie.MeasureT-loop
 loop-holds : tie.Need-loop-holds Inv-loop μ-loop
 loop-holds c = (search needs, refl, figures-none _ _ _)
 
-put-figure-requires : tie.Need-put-figure-requires Inv-loop μ-loop
-put-figure-requires c κs =
-    let a = c .before .before .before .before .before .before .args in
-    let t = c .before .before .before .loop in
-    omega (arith, t .inv .1, t .inv .2 .0, length-figures (a .separator) (take (t .i) (now (a .figures))), length-take-le (t .i) (now (a .figures)) (search needs))
-
 loop-again : tie.Need-loop-again Inv-loop μ-loop
 loop-again c =
-    let a = c .before .before .before .before .before .before .before .before .before .args in
-    let t = c .before .before .before .before .before .before .loop in (
+    let start : tie.Start Inv-loop μ-loop = search needs in
+    let t : tie.At-loop Inv-loop μ-loop = search needs in
+    let put : tie.After-put-figure Inv-loop μ-loop = search needs in
+    let a = start .args in
+    let room : t .loop .next + 21 ≤ length (t .loop .out) =
+    omega (arith, t .loop .inv .1, t .loop .inv .2 .0, length-figures (a .separator) (take (t .loop .i) (now (a .figures))), length-take-le (t .loop .i) (now (a .figures)) (search needs)) in (
       search needs,
       search needs,
-      put-figures-turn (a .separator) (now (a .figures)) (t .i) (a .at) (t .next) _ (now (a .out)) (t .out) _ (search needs) (t .inv .2) (c .before .before .put-figure .ensures),
+      put-figures-turn (a .separator) (now (a .figures)) (t .loop .i) (a .at) (t .loop .next) _ (now (a .out)) (t .loop .out) _ (search needs) (t .loop .inv .2)
+          (figure-fits (a .separator) _ (t .loop .next) _ (t .loop .out) _ room (put .put-figure .ensures)),
     )
 
 returns : tie.Need-returns Inv-loop μ-loop
 returns c =
-    let a = c .before .before .before .before .args in
+    let start : tie.Start Inv-loop μ-loop = search needs in
+    let a = start .args in
     let t = c .before .loop in
     subst (λ (l : List ℕ). Put (a .at) (figuresOf (a .separator) l) (t .next) (now (a .out)) (t .out)) (take-all (t .i) (now (a .figures)) (search needs)) (t .inv .2)
 
@@ -54,7 +54,7 @@ put-figures-spec =
     loop-holds
     (λ c. search needs)
     (λ c. search needs)
-    put-figure-requires
+    (λ c κs. search needs)
     (λ c. search needs)
     (λ c. search needs)
     loop-again
