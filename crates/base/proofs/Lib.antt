@@ -3,3 +3,4 @@ pub mod ChoiceLaws
 pub mod SumLaws
 pub mod WordLaws
 pub mod VectorLaws
+pub mod Prelude

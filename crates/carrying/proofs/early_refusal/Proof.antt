@@ -1,5 +1,5 @@
 -- `early_refusal` meets its contract: three refusals in their order.
-use borrow.Author.Needs.{needs}
+use Rattle.base.proofs.Prelude.{needs}
 use Rattle.carrying.specs.Carry.{earlyRefusal}
 use Rattle.carrying.proofs.early_refusal.Statement.{statement}
 use Rattle.carrying.proofs.early_refusal.Tie as tie
@@ -10,12 +10,5 @@ returns c = cc
 
 pub early-refusal-spec : {M : Type 1} → statement M
 early-refusal-spec =
-    tie.close
-    (tie.spec
-    (λ c κs. search needs)
-    (λ c κs. search needs)
-    (λ c κs. search needs)
-    (λ c κs. search needs)
-    (λ c κs. search needs)
-    (λ c κs. search needs)
-    returns)
+    tie.close (tie.spec (λ c κs. search needs) (λ c κs. search needs) (λ c κs. search needs) (λ c κs. search needs)
+    (λ c κs. search needs) (λ c κs. search needs) returns)

@@ -1,7 +1,7 @@
 -- `close_refusal` meets its contract: the numbers are tried in turn.
+use Rattle.base.proofs.Prelude.{needs}
 use Rattle.closing.specs.Close.{closeRefusal}
 use Rattle.call.proofs.LadderLaws.{turns}
-use borrow.Author.Needs.{needs}
 use Rattle.closing.proofs.close_refusal.Statement.{statement}
 use Rattle.closing.proofs.close_refusal.Tie as tie
 
@@ -23,12 +23,5 @@ returns-4 c = search turns depth 8
 
 pub close-refusal-spec : {M : Type 1} → statement M
 close-refusal-spec =
-    tie.close
-    (tie.spec
-    (λ c κs. search needs)
-    returns
-    (λ c κs. search needs)
-    returns-2
-    (λ c κs. search needs)
-    returns-3
-    returns-4)
+    tie.close (tie.spec (λ c κs. search needs) returns (λ c κs. search needs) returns-2 (λ c κs. search needs)
+    returns-3 returns-4)

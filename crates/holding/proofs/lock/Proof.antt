@@ -1,9 +1,5 @@
 -- `lock` meets its contract: a refusal leaves the state, and number 0 stores the kW and the term.
-use mathlib.Core.Path.{sym, ap, _∙_}
-use native.Mathlib.Omega.{arith}
-use lib.ListN.{set}
-use denote.Ref.{now}
-use borrow.Author.Needs.{needs}
+use Rattle.base.proofs.Prelude.{sym, ap, _∙_, arith, set, now, needs}
 use Rattle.call.proofs.LadderLaws.{answers-refused, answers-done}
 use Rattle.state.specs.Layout.{termAt}
 use Rattle.holding.specs.Lock.{lockState, lock}
@@ -19,32 +15,22 @@ done c = lock-done _ _ _ _ _ (sym (c .before .lock-refusal .ensures) ∙ c .if1 
 
 returns : tie.Need-returns
 unfolding lock
-returns c = answers-refused _ _ _ _ _ (c .before .before .lock-refusal .ensures) (c .before .if1 .taken) (c .refused .ensures)
-
-cast-store-pair : tie.Need-cast-store-pair
-cast-store-pair c = omega (arith, done (c .before) .kw-most)
+returns c =
+    let after-lock-refusal : tie.After-lock-refusal = search needs in
+    answers-refused _ _ _ _ _ (after-lock-refusal .lock-refusal .ensures) (c .before .if1 .taken) (c .refused .ensures)
 
 returns-2 : tie.Need-returns-2
 unfolding lock lockState
 returns-2 c =
-    let second = c .before .before .before in
-    let first = second .before .before .before .before in
-    let past = first .before .before in
-    let a = past .before .before .before .before .args in
-    answers-done _ _ _ _ _ _ (past .before .lock-refusal .ensures) (past .if1 .left) (c .granted .ensures)
-    (second .store-pair2 .ensures ∙ ap (λ l. set l (termAt (a .holder) (a .intertie)) (a .term)) (first .store-pair .ensures))
+    let after-store-pair2 : tie.After-store-pair2 = search needs in
+    let after-store-pair : tie.After-store-pair = search needs in let else1 : tie.Else1 = search needs in
+    let after-lock-refusal : tie.After-lock-refusal = search needs in
+    let start : tie.Start = search needs in let a = start .args in
+    answers-done _ _ _ _ _ _ (after-lock-refusal .lock-refusal .ensures) (else1 .if1 .left) (c .granted .ensures)
+    (after-store-pair2 .store-pair2 .ensures ∙ ap (λ l. set l (termAt (a .holder) (a .intertie)) (a .term)) (after-store-pair .store-pair .ensures))
 
 pub lock-spec : {M : Type 1} → statement M
 lock-spec =
-    tie.close
-    (tie.spec
-    (λ c κs. search needs)
-    (λ c κs. search needs)
-    (λ c. search needs)
-    returns
-    cast-store-pair
-    (λ c κs. search needs)
-    (λ c κs. search needs)
-    (λ c κs. search needs)
-    (λ c. search needs)
-    returns-2)
+    tie.close (tie.spec (λ c κs. search needs) (λ c κs. search needs) (λ c. search needs) returns
+    (λ c. omega (arith, done (c .before) .kw-most)) (λ c κs. search needs) (λ c κs. search needs)
+    (λ c κs. search needs) (λ c. search needs) returns-2)

@@ -1,13 +1,11 @@
 -- `lock_refusal` meets its contract: the numbers are tried in turn.
-use mathlib.Core.Path.{sym, _∙_}
-use denote.Ref.{now}
+use Rattle.base.proofs.Prelude.{sym, _∙_, now, needs}
 use Rattle.base.proofs.ChoiceLaws.{or-left}
 use Rattle.state.proofs.OrderlyLaws.{refusal-none}
 use Rattle.call.specs.Tests.{badKw, badTerm}
 use Rattle.call.proofs.LadderLaws.{turns}
 use Rattle.call.proofs.TestLaws.{kw-in-range}
 use Rattle.holding.specs.Lock.{lockRefusal}
-use borrow.Author.Needs.{needs}
 use Rattle.holding.proofs.lock_refusal.Statement.{statement}
 use Rattle.holding.proofs.lock_refusal.Tie as tie
 
@@ -33,11 +31,12 @@ returns-5 c = search turns depth 8
 
 barred-requires : tie.Need-barred-requires
 barred-requires c κs =
-    let past9 = c .before .before in
-    let past5 = past9 .before .before .before .before .before .before in
-    let a = past5 .before .before .before .args in (
-      refusal-none (now (a .state)) (sym (past5 .before .state-refusal .ensures) ∙ past5 .if1 .left) .1 .interties-most,
-      kw-in-range (a .kw) (or-left (badKw (a .kw)) (badTerm (a .term)) (sym (past9 .before .unfit-lock .ensures) ∙ past9 .if4 .left)) .1,
+    let else4 : tie.Else4 = search needs in let else1 : tie.Else1 = search needs in
+    let after-state-refusal : tie.After-state-refusal = search needs in
+    let after-unfit-lock : tie.After-unfit-lock = search needs in
+    let start : tie.Start = search needs in let a = start .args in (
+      refusal-none (now (a .state)) (sym (after-state-refusal .state-refusal .ensures) ∙ else1 .if1 .left) .1 .interties-most,
+      kw-in-range (a .kw) (or-left (badKw (a .kw)) (badTerm (a .term)) (sym (after-unfit-lock .unfit-lock .ensures) ∙ else4 .if4 .left)) .1,
     )
 
 returns-6 : tie.Need-returns-6
@@ -50,18 +49,5 @@ returns-7 c = search turns depth 8
 
 pub lock-refusal-spec : {M : Type 1} → statement M
 lock-refusal-spec =
-    tie.close
-    (tie.spec
-    (λ c κs. search needs)
-    returns
-    (λ c κs. search needs)
-    returns-2
-    (λ c κs. search needs)
-    returns-3
-    (λ c κs. search needs)
-    returns-4
-    (λ c κs. search needs)
-    returns-5
-    barred-requires
-    returns-6
-    returns-7)
+    tie.close (tie.spec (λ c κs. search needs) returns (λ c κs. search needs) returns-2 (λ c κs. search needs)
+    returns-3 (λ c κs. search needs) returns-4 (λ c κs. search needs) returns-5 barred-requires returns-6 returns-7)

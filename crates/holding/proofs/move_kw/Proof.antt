@@ -1,8 +1,5 @@
 -- `move_kw` meets its contract: a refusal leaves the state, and number 0 stores what both holders have placed.
-use mathlib.Core.Path.{sym, _∙_}
-use native.Mathlib.Omega.{arith}
-use denote.Ref.{now}
-use borrow.Author.Needs.{needs}
+use Rattle.base.proofs.Prelude.{sym, _∙_, arith, now, needs}
 use Rattle.call.proofs.LadderLaws.{answers-refused, answers-done}
 use Rattle.call.proofs.StoreLaws.{carried}
 use Rattle.state.specs.Layout.{placedAt}
@@ -19,46 +16,35 @@ done c = move-done _ _ _ _ _ (sym (c .before .move-refusal .ensures) ∙ c .if1 
 
 returns : tie.Need-returns
 unfolding move
-returns c = answers-refused _ _ _ _ _ (c .before .before .move-refusal .ensures) (c .before .if1 .taken) (c .refused .ensures)
-
-cast-moved : tie.Need-cast-moved
-cast-moved c = omega (arith, done c .kw-most)
+returns c =
+    let after-move-refusal : tie.After-move-refusal = search needs in
+    answers-refused _ _ _ _ _ (after-move-refusal .move-refusal .ensures) (c .before .if1 .taken) (c .refused .ensures)
 
 sub-store-pair : tie.Need-sub-store-pair
-sub-store-pair c = omega (arith, done (c .before .before .before .before .before) .enough, c .before .before .before .pair-word .ensures)
+sub-store-pair c =
+    let else1 : tie.Else1 = search needs in let after-pair-word : tie.After-pair-word = search needs in
+    omega (arith, done else1 .enough, after-pair-word .pair-word .ensures)
 
 add-store-pair : tie.Need-add-store-pair
 add-store-pair c =
-    let read = c .before .before .before .before .before in
-    omega (arith, move-fits _ _ _ _ _ (done (read .before .before .before .before)), read .pair-word2 .ensures)
+    let after-pair-word2 : tie.After-pair-word2 = search needs in let else1 : tie.Else1 = search needs in
+    omega (arith, move-fits _ _ _ _ _ (done else1), after-pair-word2 .pair-word2 .ensures)
 
 returns-2 : tie.Need-returns-2
 unfolding move moveState
 returns-2 c =
-    let second = c .before .before .before in
-    let first = second .before .before .before .before in
-    let read = first .before .before in
-    let past = read .before .before .before .before in
-    let a = past .before .before .before .before .args in
-    answers-done _ _ _ _ _ _ (past .before .move-refusal .ensures) (past .if1 .left) (c .granted .ensures)
+    let after-store-pair2 : tie.After-store-pair2 = search needs in
+    let after-store-pair : tie.After-store-pair = search needs in
+    let after-pair-word2 : tie.After-pair-word2 = search needs in let else1 : tie.Else1 = search needs in
+    let after-move-refusal : tie.After-move-refusal = search needs in
+    let after-pair-word : tie.After-pair-word = search needs in
+    let start : tie.Start = search needs in let a = start .args in
+    answers-done _ _ _ _ _ _ (after-move-refusal .move-refusal .ensures) (else1 .if1 .left) (c .granted .ensures)
     (carried (now (a .state)) (placedAt (a .giver) (a .intertie)) (placedAt (a .taker) (a .intertie)) (a .kw)
-    (read .before .before .pair-word .ensures) (read .pair-word2 .ensures) (first .store-pair .ensures) (second .store-pair2 .ensures))
+    (after-pair-word .pair-word .ensures) (after-pair-word2 .pair-word2 .ensures) (after-store-pair .store-pair .ensures) (after-store-pair2 .store-pair2 .ensures))
 
 pub move-kw-spec : {M : Type 1} → statement M
 move-kw-spec =
-    tie.close
-    (tie.spec
-    (λ c κs. search needs)
-    (λ c κs. search needs)
-    (λ c. search needs)
-    returns
-    cast-moved
-    (λ c κs. search needs)
-    (λ c κs. search needs)
-    sub-store-pair
-    (λ c κs. search needs)
-    add-store-pair
-    (λ c κs. search needs)
-    (λ c κs. search needs)
-    (λ c. search needs)
-    returns-2)
+    tie.close (tie.spec (λ c κs. search needs) (λ c κs. search needs) (λ c. search needs) returns
+    (λ c. omega (arith, done c .kw-most)) (λ c κs. search needs) (λ c κs. search needs) sub-store-pair
+    (λ c κs. search needs) add-store-pair (λ c κs. search needs) (λ c κs. search needs) (λ c. search needs) returns-2)

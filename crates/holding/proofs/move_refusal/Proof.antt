@@ -1,7 +1,7 @@
 -- `move_refusal` meets its contract: the numbers are tried in turn.
+use Rattle.base.proofs.Prelude.{needs}
 use Rattle.call.proofs.LadderLaws.{turns}
 use Rattle.holding.specs.Move.{moveRefusal}
-use borrow.Author.Needs.{needs}
 use Rattle.holding.proofs.move_refusal.Statement.{statement}
 use Rattle.holding.proofs.move_refusal.Tie as tie
 
@@ -31,16 +31,5 @@ returns-6 c = search turns depth 8
 
 pub move-refusal-spec : {M : Type 1} → statement M
 move-refusal-spec =
-    tie.close
-    (tie.spec
-    (λ c κs. search needs)
-    returns
-    (λ c κs. search needs)
-    returns-2
-    (λ c κs. search needs)
-    returns-3
-    (λ c κs. search needs)
-    returns-4
-    (λ c κs. search needs)
-    returns-5
-    returns-6)
+    tie.close (tie.spec (λ c κs. search needs) returns (λ c κs. search needs) returns-2 (λ c κs. search needs)
+    returns-3 (λ c κs. search needs) returns-4 (λ c κs. search needs) returns-5 returns-6)

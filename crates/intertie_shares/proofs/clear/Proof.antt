@@ -1,9 +1,6 @@
 -- `clear` meets its contract: after h turns the first h words are 0.
-use Prim.Native.Nat.{_-_}
-use mathlib.Core.Path.{refl}
-use lib.ListN.{length}
+use Rattle.base.proofs.Prelude.{_-_, refl, length, needs}
 use Rattle.intertie_shares.proofs.LoopLaws.{Filled, filled-none, filled-next, filled-all}
-use borrow.Author.Needs.{needs}
 use Rattle.intertie_shares.proofs.clear.Statement.{statement}
 use Rattle.intertie_shares.proofs.clear.Tie as tie
 
@@ -24,15 +21,5 @@ returns c = filled-all _ _ _ _ (c .before .loop .inv) (c .loop-test .left)
 
 pub clear-spec : {M : Type 1} → statement M
 clear-spec =
-    tie.close
-    (tie.spec
-    Inv-loop
-    μ-loop
-    loop-holds
-    (λ c. search needs)
-    (λ c. search needs)
-    (λ c. search needs)
-    (λ c. search needs)
-    loop-again
-    (λ c. search needs)
-    returns)
+    tie.close (tie.spec Inv-loop μ-loop loop-holds (λ c. search needs) (λ c. search needs) (λ c. search needs)
+    (λ c. search needs) loop-again (λ c. search needs) returns)

@@ -1,10 +1,7 @@
 -- `gather` meets its contract: after h turns the first h words are those of the column.
-use Prim.Native.Nat.{_-_}
-use mathlib.Core.Path.{refl}
-use lib.ListN.{length}
+use Rattle.base.proofs.Prelude.{_-_, refl, length, needs}
 use Rattle.intertie_shares.specs.Pairs.{atPair}
 use Rattle.intertie_shares.proofs.LoopLaws.{Filled, filled-none, filled-next, filled-all}
-use borrow.Author.Needs.{needs}
 use Rattle.intertie_shares.proofs.gather.Statement.{statement}
 use Rattle.intertie_shares.proofs.gather.Tie as tie
 
@@ -18,26 +15,15 @@ loop-holds : tie.Need-loop-holds Inv-loop μ-loop
 loop-holds c = filled-none _ _
 
 loop-again : tie.Need-loop-again Inv-loop μ-loop
-loop-again c = filled-next _ _ _ _ _ (c .before .before .loop .inv) (c .before .loop-test .taken) refl
+loop-again c =
+    let at-loop : tie.At-loop Inv-loop μ-loop = search needs in
+    filled-next _ _ _ _ _ (at-loop .loop .inv) (c .before .loop-test .taken) refl
 
 returns : tie.Need-returns Inv-loop μ-loop
 returns c = filled-all _ _ _ _ (c .before .loop .inv) (c .loop-test .left)
 
 pub gather-spec : {M : Type 1} → statement M
 gather-spec =
-    tie.close
-    (tie.spec
-    Inv-loop
-    μ-loop
-    loop-holds
-    (λ c. search needs)
-    (λ c. search needs)
-    (λ c. search needs)
-    (λ c. search needs)
-    (λ c. search needs)
-    (λ c. search needs)
-    (λ c. search needs)
-    (λ c. search needs)
-    loop-again
-    (λ c. search needs)
-    returns)
+    tie.close (tie.spec Inv-loop μ-loop loop-holds (λ c. search needs) (λ c. search needs) (λ c. search needs)
+    (λ c. search needs) (λ c. search needs) (λ c. search needs) (λ c. search needs) (λ c. search needs) loop-again
+    (λ c. search needs) returns)

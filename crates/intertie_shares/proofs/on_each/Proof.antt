@@ -1,15 +1,7 @@
 -- `on_each` meets its contract: after i turns the first i interties are shared out.
-use Prim.Native.Nat.{_+_, _-_, _≤_}
-use mathlib.Core.Path.{_≡_, refl}
-use native.Mathlib.Omega.{arith}
-use lib.ListN.{length}
-use denote.Ref.{now}
-use lib.Dec.{leb}
-use Rattle.base.specs.Sums.{allTo}
-use Rattle.base.specs.Words.{at}
+use Rattle.base.proofs.Prelude.{_+_, _-_, _≤_, _≡_, refl, arith, length, leb, now, needs, allTo, at}
 use Rattle.intertie_shares.specs.Fit.{SharedOn}
 use Rattle.intertie_shares.proofs.LoopLaws.{Over, over-none, over-next, over-most, over-all}
-use borrow.Author.Needs.{needs}
 use Rattle.intertie_shares.proofs.on_each.Statement.{statement}
 use Rattle.intertie_shares.proofs.on_each.Tie as tie
 
@@ -26,14 +18,18 @@ loop-holds : tie.Need-loop-holds Inv-loop μ-loop
 loop-holds c = (refl, refl, over-none _ _ _ _ _ _, c .weights-fit .ensures)
 
 share-out-on-requires : tie.Need-share-out-on-requires Inv-loop μ-loop
-share-out-on-requires c κs = (search needs, search needs, rw (c .before .before .before .before .loop .inv .0) (c .before .before .before .before .loop .inv .3))
+share-out-on-requires c κs =
+    let at-loop : tie.At-loop Inv-loop μ-loop = search needs in
+    (search needs, search needs, rw (at-loop .loop .inv .0) (at-loop .loop .inv .3))
 
 -- the turn is the intertie's share-out
 turn : (c : tie.After-share-out-on Inv-loop μ-loop) →
     let a = c .before .before .before .before .before .before .before .before .before .before .before .before .before .args in
     SharedOn (c .before .before .before .before .before .loop .i) (length (now (a .claimed))) (now (a .pools)) (now (a .claims)) (now (a .weights)) (c .before .before .before .before .before .loop .grants)
     (c .share-out-on .result) (c .share-out-on .last .1 .1 .1 .1 .1 .1 .1 .0)
-turn c = rw (c .before .before .before .before .before .loop .inv .0) at (c .share-out-on .ensures)
+turn c =
+    let at-loop : tie.At-loop Inv-loop μ-loop = search needs in
+    rw (at-loop .loop .inv .0) at (c .share-out-on .ensures)
 
 -- its kW and passes can be added
 most : (c : tie.After-share-out-on Inv-loop μ-loop) →
@@ -41,44 +37,42 @@ most : (c : tie.After-share-out-on Inv-loop μ-loop) →
     let r = c .share-out-on .result in
     (at-loop .kw + r .kw ≤ 960000000) × (at-loop .passes + r .passes ≤ 960000000)
 most c =
-    over-most _ _ _ _ _ _ _ _ _ _ _ _ (c .before .before .before .before .before .loop .inv .2) (c .before .before .before .before .loop-test .taken) (turn c)
-    (c .before .before .before .before .before .before .before .before .before .before .before .before .before .pre .0 .interties)
+    let at-loop : tie.At-loop Inv-loop μ-loop = search needs in
+    let in-loop : tie.In-loop Inv-loop μ-loop = search needs in
+    let start : tie.Start Inv-loop μ-loop = search needs in
+    over-most _ _ _ _ _ _ _ _ _ _ _ _ (at-loop .loop .inv .2) (in-loop .loop-test .taken) (turn c)
+    (start .pre .0 .interties)
 
 add-kw : tie.Need-add-kw Inv-loop μ-loop
-add-kw c = omega (arith, most (c .before .before .before .before .before .before .before))
+add-kw c =
+    let after-share-out-on : tie.After-share-out-on Inv-loop μ-loop = search needs in
+    omega (arith, most after-share-out-on)
 
 add-passes : tie.Need-add-passes Inv-loop μ-loop
-add-passes c = omega (arith, most (c .before .before .before .before .before .before .before .before))
+add-passes c =
+    let after-share-out-on : tie.After-share-out-on Inv-loop μ-loop = search needs in
+    omega (arith, most after-share-out-on)
 
 loop-again : tie.Need-loop-again Inv-loop μ-loop
-loop-again c = (
-  search needs,
-  search needs,
-  over-next _ _ _ _ _ _ _ _ _ _ _ _ (c .before .before .before .before .before .before .before .before .before .before .before .before .before .loop .inv .2) (c .before .before .before .before .before .before .before .before .before .before .before .before .loop-test .taken)
-      (turn (c .before .before .before .before .before .before .before .before)),
-  c .before .before .before .before .before .before .before .before .before .before .before .before .before .loop .inv .3,
-)
+loop-again c =
+    let at-loop : tie.At-loop Inv-loop μ-loop = search needs in
+    let in-loop : tie.In-loop Inv-loop μ-loop = search needs in
+    let after-share-out-on : tie.After-share-out-on Inv-loop μ-loop = search needs in (
+      search needs,
+      search needs,
+      over-next _ _ _ _ _ _ _ _ _ _ _ _ (at-loop .loop .inv .2) (in-loop .loop-test .taken)
+          (turn after-share-out-on),
+      at-loop .loop .inv .3,
+    )
 
 returns : tie.Need-returns Inv-loop μ-loop
 returns c =
-    over-all _ _ _ _ _ _ _ _ _ _ _ (c .before .before .loop .inv .2) (c .before .loop-test .left) (c .before .before .before .before .before .before .before .before .before .before .pre .0) (c .granted .ensures)
+    let at-loop : tie.At-loop Inv-loop μ-loop = search needs in
+    let start : tie.Start Inv-loop μ-loop = search needs in
+    over-all _ _ _ _ _ _ _ _ _ _ _ (at-loop .loop .inv .2) (c .before .loop-test .left) (start .pre .0) (c .granted .ensures)
 
 pub on-each-spec : {M : Type 1} → statement M
 on-each-spec =
-    tie.close
-    (tie.spec
-    Inv-loop
-    μ-loop
-    (λ c κs. search needs)
-    loop-holds
-    share-out-on-requires
-    add-kw
-    add-passes
-    (λ c. search needs)
-    (λ c. search needs)
-    loop-again
-    (λ c κs. search needs)
-    (λ c. search needs)
-    (λ c. search needs)
-    (λ c. search needs)
-    returns)
+    tie.close (tie.spec Inv-loop μ-loop (λ c κs. search needs) loop-holds share-out-on-requires add-kw add-passes
+    (λ c. search needs) (λ c. search needs) loop-again (λ c κs. search needs) (λ c. search needs) (λ c. search needs)
+    (λ c. search needs) returns)

@@ -1,5 +1,5 @@
 -- `orderly::state_refusal` meets its contract.
-use borrow.Author.Needs.{needs}
+use Rattle.base.proofs.Prelude.{needs}
 use borrow.Author.Tests.{le-ltb}
 use Rattle.base.proofs.Rules.{tests}
 use Rattle.state.specs.Orderly.{stateRefusal}
@@ -10,16 +10,18 @@ returns : tie.Need-returns
 unfolding stateRefusal
 returns c = search tests
 
-is-orderly-requires : tie.Need-is-orderly-requires
-is-orderly-requires c κs = search needs
-
 returns-2 : tie.Need-returns-2
 unfolding stateRefusal
-returns-2 c = rw (le-ltb _ _ (c .before .before .if1 .left), ← (c .before .is-orderly .ensures), c .if2 .taken)
+returns-2 c =
+    let else1 : tie.Else1 = search needs in
+    rw (le-ltb _ _ (else1 .if1 .left), ← (c .before .is-orderly .ensures), c .if2 .taken)
 
 returns-3 : tie.Need-returns-3
 unfolding stateRefusal
-returns-3 c = rw (le-ltb _ _ (c .before .before .if1 .left), ← (c .before .is-orderly .ensures), c .if2 .left)
+returns-3 c =
+    let else1 : tie.Else1 = search needs in
+    rw (le-ltb _ _ (else1 .if1 .left), ← (c .before .is-orderly .ensures), c .if2 .left)
 
 pub state-refusal-spec : {M : Type 1} → statement M
-state-refusal-spec = tie.close (tie.spec returns is-orderly-requires returns-2 returns-3)
+state-refusal-spec =
+    tie.close (tie.spec returns (λ c κs. search needs) returns-2 returns-3)

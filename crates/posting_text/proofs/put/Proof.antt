@@ -1,21 +1,13 @@
 -- `put` meets its contract: one byte is stored.
+use Rattle.base.proofs.Prelude.{needs}
 use Rattle.text.specs.Written.{written}
-use borrow.Author.Needs.{needs}
 use Rattle.posting_text.proofs.put.Statement.{statement}
 use Rattle.posting_text.proofs.put.Tie as tie
-
-slice-write-out : tie.Need-slice-write-out
-slice-write-out c = search needs
-
-add-result : tie.Need-add-result
-add-result c = search needs
-
-same-length : tie.Need-same-length
-same-length c = search needs
 
 returns : tie.Need-returns
 unfolding written
 returns c = search needs
 
 pub put-spec : {M : Type 1} → statement M
-put-spec = tie.close (tie.spec slice-write-out add-result same-length returns)
+put-spec =
+    tie.close (tie.spec (λ c. search needs) (λ c. search needs) (λ c. search needs) returns)

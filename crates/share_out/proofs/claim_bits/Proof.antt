@@ -1,11 +1,5 @@
 -- `claim_bits` meets its contract: after i turns no claim of the first i is above the bits.
-use Prim.Native.Nat.{_-_, _≤_}
-use mathlib.Core.Path.{refl}
-use native.Mathlib.Omega.{arith}
-use borrow.Author.Needs.{needs}
-use lib.ListN.{length}
-use denote.Ref.{now}
-use Rattle.base.specs.Words.{at}
+use Rattle.base.proofs.Prelude.{_-_, _≤_, refl, arith, length, now, needs, at}
 use Rattle.share_out.specs.Fit.{Covered}
 use Rattle.share_out.proofs.NumberLaws.{covered-none, covered-more}
 use Rattle.share_out.proofs.claim_bits.Statement.{statement}
@@ -22,22 +16,15 @@ loop-holds c = (search needs, covered-none _)
 
 loop-again : tie.Need-loop-again Inv-loop μ-loop
 loop-again c =
-    let l = c .before .before .loop in
-    (search needs, covered-more (at (now (c .before .before .before .args .claims))) (l .i) (l .bits) _ (l .inv .1) refl)
+    let at-loop : tie.At-loop Inv-loop μ-loop = search needs in
+    let start : tie.Start Inv-loop μ-loop = search needs in
+    let l = at-loop .loop in
+    (search needs, covered-more (at (now (start .args .claims))) (l .i) (l .bits) _ (l .inv .1) refl)
 
 returns : tie.Need-returns Inv-loop μ-loop
 returns c = λ i l. c .before .loop .inv .1 i (omega arith)
 
 pub claim-bits-spec : {M : Type 1} → statement M
 claim-bits-spec =
-    tie.close
-    (tie.spec
-    Inv-loop
-    μ-loop
-    loop-holds
-    (λ c. search needs)
-    (λ c. search needs)
-    (λ c. search needs)
-    (λ c. search needs)
-    loop-again
-    returns)
+    tie.close (tie.spec Inv-loop μ-loop loop-holds (λ c. search needs) (λ c. search needs) (λ c. search needs)
+    (λ c. search needs) loop-again returns)

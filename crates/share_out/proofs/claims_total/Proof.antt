@@ -1,12 +1,5 @@
 -- `claims_total` meets its contract: after i turns the total is that of the first i claims.
-use Prim.Native.Nat.{_-_, _*_, _≤_}
-use mathlib.Core.Path.{_≡_, ap, _∙_}
-use native.Mathlib.Omega.{arith}
-use borrow.Author.Needs.{needs}
-use lib.ListN.{length}
-use denote.Ref.{now}
-use Rattle.base.specs.Sums.{sumTo}
-use Rattle.base.specs.Words.{at}
+use Rattle.base.proofs.Prelude.{_-_, _*_, _≤_, _≡_, ap, _∙_, arith, length, now, needs, sumTo, at}
 use Rattle.base.proofs.SumLaws.{sumTo-zero, sumTo-more}
 use Rattle.share_out.proofs.claims_total.Statement.{statement}
 use Rattle.share_out.proofs.claims_total.Tie as tie
@@ -23,32 +16,27 @@ loop-holds c = omega (arith, sumTo-zero (at (now (c .args .claims))))
 -- the next claim is within its range
 add-total : tie.Need-add-total Inv-loop μ-loop
 add-total c =
-    omega (arith, c .before .before .before .pre .1 (c .before .before .loop .i) (c .before .loop-test .taken))
+    let start : tie.Start Inv-loop μ-loop = search needs in
+    let at-loop : tie.At-loop Inv-loop μ-loop = search needs in
+    omega (arith, start .pre .1 (at-loop .loop .i) (c .before .loop-test .taken))
 
 loop-again : tie.Need-loop-again Inv-loop μ-loop
 loop-again c =
+    let start : tie.Start Inv-loop μ-loop = search needs in
+    let at-loop : tie.At-loop Inv-loop μ-loop = search needs in
     omega (
       arith,
-      c .before .before .before .pre .1 (c .before .before .loop .i) (c .before .loop-test .taken),
-      sumTo-more (c .before .before .loop .i) (at (now (c .before .before .before .args .claims))),
+      start .pre .1 (at-loop .loop .i) (c .before .loop-test .taken),
+      sumTo-more (at-loop .loop .i) (at (now (start .args .claims))),
     )
 
 returns : tie.Need-returns Inv-loop μ-loop
 returns c =
-    let end : c .before .loop .i ≡ length (now (c .before .before .args .claims)) = omega arith in
-    c .before .loop .inv .1 ∙ ap (λ k. sumTo k (at (now (c .before .before .args .claims)))) end
+    let start : tie.Start Inv-loop μ-loop = search needs in
+    let end : c .before .loop .i ≡ length (now (start .args .claims)) = omega arith in
+    c .before .loop .inv .1 ∙ ap (λ k. sumTo k (at (now (start .args .claims)))) end
 
 pub claims-total-spec : {M : Type 1} → statement M
 claims-total-spec =
-    tie.close
-    (tie.spec
-    Inv-loop
-    μ-loop
-    loop-holds
-    (λ c. search needs)
-    (λ c. search needs)
-    add-total
-    (λ c. search needs)
-    (λ c. search needs)
-    loop-again
-    returns)
+    tie.close (tie.spec Inv-loop μ-loop loop-holds (λ c. search needs) (λ c. search needs) add-total
+    (λ c. search needs) (λ c. search needs) loop-again returns)

@@ -1,5 +1,5 @@
 -- `open_weight` meets its contract: a weight of 0 brings 0, open or not.
-use mathlib.Core.Path.{sym}
+use Rattle.base.proofs.Prelude.{sym}
 use Rattle.share_out.proofs.PassLaws.{open-weight-unmet, open-weight-met}
 use Rattle.share_out.proofs.open_weight.Statement.{statement}
 use Rattle.share_out.proofs.open_weight.Tie as tie
@@ -11,4 +11,5 @@ returns-2 : tie.Need-returns-2
 returns-2 c = sym (open-weight-met (c .before .args .unmet) (c .before .args .weight) (c .if1 .left))
 
 pub open-weight-spec : {M : Type 1} → statement M
-open-weight-spec = tie.close (tie.spec returns returns-2)
+open-weight-spec =
+    tie.close (tie.spec returns returns-2)

@@ -1,14 +1,9 @@
 -- `portion` meets its contract: by the rate where that decides (`RateLaws`), else by the division.
-use Prim.Native.Nat.{_*_, _≤_}
+use Rattle.base.proofs.Prelude.{_*_, _≤_, arith, needs}
 use native.Mathlib.Nat.{mul-le-mul}
-use native.Mathlib.Omega.{arith}
-use borrow.Author.Needs.{needs}
 use Rattle.share_out.proofs.RateLaws.{rate-most, portion-by-rate, portion-some}
 use Rattle.share_out.proofs.portion.Statement.{statement}
 use Rattle.share_out.proofs.portion.Tie as tie
-
-mul-parts : tie.Need-mul-parts
-mul-parts c = omega (arith, rate-most _ _ _ _ (c .pre), c .pre .pooled)
 
 add-if1 : tie.Need-add-if1
 add-if1 c = omega (arith, rate-most _ _ _ _ (c .pre), c .pre .pooled, c .pre .weighted)
@@ -29,4 +24,6 @@ returns-2 : tie.Need-returns-2
 returns-2 c = search needs
 
 pub portion-spec : {M : Type 1} → statement M
-portion-spec = tie.close (tie.spec mul-parts add-if1 returns mul-result div-result returns-2)
+portion-spec =
+    tie.close (tie.spec (λ c. omega (arith, rate-most _ _ _ _ (c .pre), c .pre .pooled)) add-if1 returns mul-result
+    div-result returns-2)

@@ -1,13 +1,7 @@
 -- `serve_in_turn` meets its contract: after i turns the first i holders are served (`TurnLaws`).
-use Prim.Native.Nat.{_-_, min}
-use mathlib.Core.Path.{ap, _∙_}
-use native.Mathlib.Omega.{arith}
-use lib.ListN.{length}
-use denote.Ref.{now}
-use Rattle.base.specs.Words.{at}
+use Rattle.base.proofs.Prelude.{_-_, min, ap, _∙_, arith, length, now, needs, at}
 use Rattle.share_out.specs.Fit.{wants}
 use Rattle.share_out.proofs.TurnLaws.{Served, served-none, served-later, served-next, served-all, served-empty, wants-is, wants-unmet}
-use borrow.Author.Needs.{needs}
 use Rattle.share_out.proofs.serve_in_turn.Statement.{statement}
 use Rattle.share_out.proofs.serve_in_turn.Tie as tie
 
@@ -22,73 +16,63 @@ loop-holds : tie.Need-loop-holds Inv-loop μ-loop
 loop-holds c = served-none _ _ _ _
 
 same-length : tie.Need-same-length Inv-loop μ-loop
-same-length c = c .before .before .loop .inv .size
+same-length c =
+    let at-loop : tie.At-loop Inv-loop μ-loop = search needs in
+    at-loop .loop .inv .size
 
 -- the pool is empty
 returns : tie.Need-returns Inv-loop μ-loop
-returns c = served-empty _ _ _ _ _ _ _ (c .before .before .before .before .before .pre .granted) (c .before .before .loop .inv) (c .if1 .taken)
+returns c =
+    let start : tie.Start Inv-loop μ-loop = search needs in
+    let at-loop : tie.At-loop Inv-loop μ-loop = search needs in
+    served-empty _ _ _ _ _ _ _ (start .pre .granted) (at-loop .loop .inv) (c .if1 .taken)
 
 add-grants : tie.Need-add-grants Inv-loop μ-loop
 add-grants c =
-    let a = c .before .before .before .before .before .before .before .before .before .before .before .before .args in
-    let i = c .before .before .before .before .before .before .before .before .before .loop .i in
-    let later = served-later _ _ _ _ _ _ _ (c .before .before .before .before .before .before .before .before .before .loop .inv) in
+    let at-loop : tie.At-loop Inv-loop μ-loop = search needs in
+    let after-shared-slice-known2 : tie.After-shared-slice-known2 Inv-loop μ-loop = search needs in
+    let after-excess : tie.After-excess Inv-loop μ-loop = search needs in
+    let after-want : tie.After-want Inv-loop μ-loop = search needs in
+    let in-loop : tie.In-loop Inv-loop μ-loop = search needs in
+    let start : tie.Start Inv-loop μ-loop = search needs in let a = start .args in
+    let i = at-loop .loop .i in
+    let later = served-later _ _ _ _ _ _ _ (at-loop .loop .inv) in
     omega (
       arith,
       c .slice-known3 .given i,
-      c .before .before .before .before .before .before .shared-slice-known2 .given i,
-      wants-unmet (a .singly) (at (now (a .open-weights)) i) (c .before .before .before .before .excess .result) (c .before .before .want .result)
-          (λ some. omega (arith, c .before .before .before .before .before .before .before .before .before .before .before .before .pre .unmetThere i (c .before .before .before .before .before .before .before .before .loop-test .taken) some, later, c .before .before .before .before .excess .ensures)) (c .before .before .want .ensures),
-      c .before .before .before .before .excess .ensures,
+      after-shared-slice-known2 .shared-slice-known2 .given i,
+      wants-unmet (a .singly) (at (now (a .open-weights)) i) (after-excess .excess .result) (after-want .want .result)
+          (λ some. omega (arith, start .pre .unmetThere i (in-loop .loop-test .taken) some, later, after-excess .excess .ensures)) (after-want .want .ensures),
+      after-excess .excess .ensures,
       c .before .smaller .ensures,
     )
 
 loop-again : tie.Need-loop-again Inv-loop μ-loop
 loop-again c =
-    let a = c .before .before .before .before .before .before .before .before .before .before .before .before .args in
-    let s = c .before .before .before .before .before .before .before .before .before .loop .inv in
-    let i = c .before .before .before .before .before .before .before .before .before .loop .i in
-    served-next _ _ _ _ _ _ i _ s (c .before .before .before .before .before .before .before .before .loop-test .taken)
+    let at-loop : tie.At-loop Inv-loop μ-loop = search needs in
+    let in-loop : tie.In-loop Inv-loop μ-loop = search needs in
+    let after-excess : tie.After-excess Inv-loop μ-loop = search needs in
+    let after-want : tie.After-want Inv-loop μ-loop = search needs in
+    let start : tie.Start Inv-loop μ-loop = search needs in let a = start .args in
+    let s = at-loop .loop .inv in
+    let i = at-loop .loop .i in
+    served-next _ _ _ _ _ _ i _ s (in-loop .loop-test .taken)
     (c .before .smaller .ensures
-    ∙ ap (λ k. min k (c .before .before .before .before .before .before .before .before .before .loop .rest))
-    (wants-is (a .singly) (now (a .claims)) (now (a .open-weights)) (now (a .grants)) (c .before .before .before .before .before .before .before .before .before .loop .grants) i _ _
+    ∙ ap (λ k. min k (at-loop .loop .rest))
+    (wants-is (a .singly) (now (a .claims)) (now (a .open-weights)) (now (a .grants)) (at-loop .loop .grants) i _ _
     (served-later _ _ _ _ _ _ _ s)
-    (c .before .before .before .before .excess .ensures)
-    (c .before .before .want .ensures)))
-
-same-length-2 : tie.Need-same-length-2 Inv-loop μ-loop
-same-length-2 c = c .before .loop .inv .size
+    (after-excess .excess .ensures)
+    (after-want .want .ensures)))
 
 returns-2 : tie.Need-returns-2 Inv-loop μ-loop
 returns-2 c =
-    served-all _ _ _ _ _ _ _ (c .before .before .before .before .pre .granted) (c .before .loop .inv) (c .loop-test .left)
+    let start : tie.Start Inv-loop μ-loop = search needs in
+    served-all _ _ _ _ _ _ _ (start .pre .granted) (c .before .loop .inv) (c .loop-test .left)
 
 pub serve-in-turn-spec : {M : Type 1} → statement M
 serve-in-turn-spec =
-    tie.close
-    (tie.spec
-    Inv-loop
-    μ-loop
-    loop-holds
-    same-length
-    returns
-    (λ c. search needs)
-    (λ c. search needs)
-    (λ c. search needs)
-    (λ c. search needs)
-    (λ c κs. search needs)
-    (λ c. search needs)
-    (λ c. search needs)
-    (λ c κs. search needs)
-    (λ c κs. search needs)
-    (λ c. search needs)
-    (λ c. search needs)
-    add-grants
-    (λ c. search needs)
-    (λ c. search needs)
-    (λ c. search needs)
-    (λ c. search needs)
-    loop-again
-    (λ c. search needs)
-    same-length-2
-    returns-2)
+    tie.close (tie.spec Inv-loop μ-loop loop-holds same-length returns (λ c. search needs) (λ c. search needs)
+    (λ c. search needs) (λ c. search needs) (λ c κs. search needs) (λ c. search needs) (λ c. search needs)
+    (λ c κs. search needs) (λ c κs. search needs) (λ c. search needs) (λ c. search needs) add-grants
+    (λ c. search needs) (λ c. search needs) (λ c. search needs) (λ c. search needs) loop-again (λ c. search needs)
+    (λ c. c .before .loop .inv .size) returns-2)

@@ -1,13 +1,6 @@
 -- `some_out_of_range` meets its contract: each holder passed was in range.
-use Prim.Native.Nat.{_-_, _≤_}
-use mathlib.Core.Path.{_≡_, sym, ap, _∙_}
-use mathlib.Core.Bool.{true, not}
-use native.Mathlib.Omega.{arith}
-use borrow.Author.Needs.{needs}
+use Rattle.base.proofs.Prelude.{_-_, _≤_, _≡_, sym, ap, _∙_, true, not, arith, length, now, needs, allTo}
 use borrow.Author.Tests.{not-true, not-false}
-use lib.ListN.{length}
-use denote.Ref.{now}
-use Rattle.base.specs.Sums.{allTo}
 use Rattle.base.proofs.SumLaws.{allTo-zero, allTo-more}
 use Rattle.share_out.specs.Rule.{inRange}
 use Rattle.share_out.proofs.NumberLaws.{holder-over}
@@ -25,35 +18,26 @@ loop-holds c = search (needs, allTo-zero)
 
 returns : tie.Need-returns Inv-loop μ-loop
 returns c =
-    let a = c .before .before .before .before .before .before .before .before .args in
+    let at-loop : tie.At-loop Inv-loop μ-loop = search needs in
+    let in-loop : tie.In-loop Inv-loop μ-loop = search needs in
+    let start : tie.Start Inv-loop μ-loop = search needs in let a = start .args in
     sym
-    (holder-over (now (a .claims)) (now (a .weights)) (c .before .before .before .before .before .loop .i) (c .before .before .before .before .loop-test .taken) (sym (c .before .in-range .ensures) ∙ not-true _ (c .if1 .taken)))
+    (holder-over (now (a .claims)) (now (a .weights)) (at-loop .loop .i) (in-loop .loop-test .taken) (sym (c .before .in-range .ensures) ∙ not-true _ (c .if1 .taken)))
 
 loop-again : tie.Need-loop-again Inv-loop μ-loop
-loop-again c = (
-  search needs,
-  allTo-more _ _ (c .before .before .before .before .before .loop .inv .1) (sym (c .before .in-range .ensures) ∙ not-false _ (c .if1 .left)),
-)
+loop-again c =
+    let at-loop : tie.At-loop Inv-loop μ-loop = search needs in (
+      search needs,
+      allTo-more _ _ (at-loop .loop .inv .1) (sym (c .before .in-range .ensures) ∙ not-false _ (c .if1 .left)),
+    )
 
 returns-2 : tie.Need-returns-2 Inv-loop μ-loop
 returns-2 c =
-    let end : c .before .loop .i ≡ length (now (c .before .before .before .before .args .claims)) = omega arith in
+    let start : tie.Start Inv-loop μ-loop = search needs in
+    let end : c .before .loop .i ≡ length (now (start .args .claims)) = omega arith in
     sym (ap not (rw end at (c .before .loop .inv .1)))
 
 pub some-out-of-range-spec : {M : Type 1} → statement M
 some-out-of-range-spec =
-    tie.close
-    (tie.spec
-    Inv-loop
-    μ-loop
-    loop-holds
-    (λ c. search needs)
-    (λ c. search needs)
-    (λ c. search needs)
-    (λ c. search needs)
-    (λ c κs. search needs)
-    returns
-    (λ c. search needs)
-    (λ c. search needs)
-    loop-again
-    returns-2)
+    tie.close (tie.spec Inv-loop μ-loop loop-holds (λ c. search needs) (λ c. search needs) (λ c. search needs)
+    (λ c. search needs) (λ c κs. search needs) returns (λ c. search needs) (λ c. search needs) loop-again returns-2)

@@ -1,9 +1,5 @@
 -- `weigh_open` meets its contract: after i turns the first i weights are noted and summed (`LoopLaws`).
-use Prim.Native.Nat.{_-_}
-use native.Mathlib.Omega.{arith}
-use borrow.Author.Needs.{needs}
-use lib.ListN.{length}
-use denote.Ref.{now}
+use Rattle.base.proofs.Prelude.{_-_, arith, length, now, needs}
 use Rattle.share_out.specs.Fit.{none}
 use Rattle.share_out.specs.Pass.{openWeight}
 use Rattle.share_out.proofs.PassLaws.{openWeight-most}
@@ -23,41 +19,33 @@ loop-holds c = noted-none _ _ _
 
 add-all : tie.Need-add-all Inv-loop μ-loop
 add-all c =
-    let a = c .before .before .before .before .before .before .before .args in
-    let p = c .before .before .before .before .before .before .before .pre in
+    let at-loop : tie.At-loop Inv-loop μ-loop = search needs in
+    let in-loop : tie.In-loop Inv-loop μ-loop = search needs in
+    let start : tie.Start Inv-loop μ-loop = search needs in let a = start .args in
+    let p = start .pre in
     omega (
       arith,
       p .few,
-      noted-most _ _ _ 100000000 _ _ (c .before .before .before .before .loop .i) _
-          (λ j l. openWeight-most (now (a .claims)) (now (a .weights)) 100000000 (none (now (a .claims))) j (p .ranged j l)) (c .before .before .before .before .loop .inv) (c .before .before .before .loop-test .taken)
-          (first-is (now (a .claims)) (now (a .weights)) (c .before .before .before .before .loop .i) _ (c .before .before .before .loop-test .taken) (c .open-weight .ensures)),
+      noted-most _ _ _ 100000000 _ _ (at-loop .loop .i) _
+          (λ j l. openWeight-most (now (a .claims)) (now (a .weights)) 100000000 (none (now (a .claims))) j (p .ranged j l)) (at-loop .loop .inv) (in-loop .loop-test .taken)
+          (first-is (now (a .claims)) (now (a .weights)) (at-loop .loop .i) _ (in-loop .loop-test .taken) (c .open-weight .ensures)),
     )
 
 loop-again : tie.Need-loop-again Inv-loop μ-loop
 loop-again c =
-    let a = c .before .before .before .before .before .before .before .args in
-    noted-next _ _ _ _ _ (c .before .before .before .before .loop .i) _ (c .before .before .before .before .loop .inv) (c .before .before .before .loop-test .taken)
-    (first-is (now (a .claims)) (now (a .weights)) (c .before .before .before .before .loop .i) _ (c .before .before .before .loop-test .taken) (c .open-weight .ensures))
+    let at-loop : tie.At-loop Inv-loop μ-loop = search needs in
+    let in-loop : tie.In-loop Inv-loop μ-loop = search needs in
+    let start : tie.Start Inv-loop μ-loop = search needs in let a = start .args in
+    noted-next _ _ _ _ _ (at-loop .loop .i) _ (at-loop .loop .inv) (in-loop .loop-test .taken)
+    (first-is (now (a .claims)) (now (a .weights)) (at-loop .loop .i) _ (in-loop .loop-test .taken) (c .open-weight .ensures))
 
 returns : tie.Need-returns Inv-loop μ-loop
-returns c = noted-weights _ _ _ _ _ _ _ (c .before .before .before .before .pre .few) (c .before .before .before .before .pre .room) (c .before .loop .inv) (c .loop-test .left)
+returns c =
+    let start : tie.Start Inv-loop μ-loop = search needs in
+    noted-weights _ _ _ _ _ _ _ (start .pre .few) (start .pre .room) (c .before .loop .inv) (c .loop-test .left)
 
 pub weigh-open-spec : {M : Type 1} → statement M
 weigh-open-spec =
-    tie.close
-    (tie.spec
-    Inv-loop
-    μ-loop
-    loop-holds
-    (λ c. search needs)
-    (λ c. search needs)
-    (λ c. search needs)
-    (λ c. search needs)
-    (λ c κs. search needs)
-    (λ c. search needs)
-    (λ c. search needs)
-    add-all
-    (λ c. search needs)
-    (λ c. search needs)
-    loop-again
-    returns)
+    tie.close (tie.spec Inv-loop μ-loop loop-holds (λ c. search needs) (λ c. search needs) (λ c. search needs)
+    (λ c. search needs) (λ c κs. search needs) (λ c. search needs) (λ c. search needs) add-all (λ c. search needs)
+    (λ c. search needs) loop-again returns)

@@ -1,11 +1,5 @@
 -- `weight_bits` meets its contract: after i turns no raised weight of the first i is above the bits.
-use Prim.Native.Nat.{ℕ, _-_, _≤_}
-use mathlib.Core.List.{List}
-use native.Mathlib.Omega.{arith}
-use borrow.Author.Needs.{needs}
-use lib.ListN.{length}
-use denote.Ref.{now}
-use Rattle.base.specs.Words.{at}
+use Rattle.base.proofs.Prelude.{ℕ, _-_, _≤_, List, arith, length, now, needs, at}
 use Rattle.share_out.specs.Fit.{Covered, raised}
 use Rattle.share_out.proofs.NumberLaws.{covered-none, covered-more}
 use Rattle.share_out.proofs.weight_bits.Statement.{statement}
@@ -26,23 +20,15 @@ loop-holds c = (search needs, covered-none _)
 
 loop-again : tie.Need-loop-again Inv-loop μ-loop
 loop-again c =
-    let l = c .before .before .before .loop in
-    (search needs, covered-more (raisedAt (now (c .before .before .before .before .before .args .weights))) (l .i) (l .bits) _ (l .inv .1) (c .raised .ensures))
+    let at-loop : tie.At-loop Inv-loop μ-loop = search needs in
+    let start : tie.Start Inv-loop μ-loop = search needs in
+    let l = at-loop .loop in
+    (search needs, covered-more (raisedAt (now (start .args .weights))) (l .i) (l .bits) _ (l .inv .1) (c .raised .ensures))
 
 returns : tie.Need-returns Inv-loop μ-loop
 returns c = λ i l. c .before .loop .inv .1 i (omega arith)
 
 pub weight-bits-spec : {M : Type 1} → statement M
 weight-bits-spec =
-    tie.close
-    (tie.spec
-    Inv-loop
-    μ-loop
-    loop-holds
-    (λ c. search needs)
-    (λ c. search needs)
-    (λ c κs. search needs)
-    (λ c. search needs)
-    (λ c. search needs)
-    loop-again
-    returns)
+    tie.close (tie.spec Inv-loop μ-loop loop-holds (λ c. search needs) (λ c. search needs) (λ c κs. search needs)
+    (λ c. search needs) (λ c. search needs) loop-again returns)

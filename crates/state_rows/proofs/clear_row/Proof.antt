@@ -1,12 +1,7 @@
 -- `clear_row` meets its contract: after n turns the first n columns are cleared.
-use Prim.Native.Nat.{ℕ, _-_, _≤_}
-use mathlib.Core.Path.{_≡_, refl, sym, ap, _∙_}
-use native.Mathlib.Omega.{arith}
-use lib.ListN.{length, length-set}
-use denote.Ref.{now}
+use Rattle.base.proofs.Prelude.{ℕ, _-_, _≤_, _≡_, refl, sym, ap, _∙_, arith, length, length-set, now, needs}
 use Rattle.state_rows.specs.Rows.{fillRow}
 use Rattle.state_rows.proofs.RowLaws.{fillRow-none, fillRow-turn}
-use borrow.Author.Needs.{needs}
 use Rattle.state_rows.proofs.clear_row.Statement.{statement}
 use Rattle.state_rows.proofs.clear_row.Tie as tie
 
@@ -22,34 +17,19 @@ loop-holds c = (search needs, refl, sym (fillRow-none _ _ _))
 
 loop-again : tie.Need-loop-again Inv-loop μ-loop
 loop-again c =
-    let a = c .before .before .args in (
+    let start : tie.Start Inv-loop μ-loop = search needs in let a = start .args in (
       search needs,
       simp length-set (c .before .loop .inv .1),
       fillRow-turn (a .row) (c .before .loop .column) (λ (k : ℕ). 0) _ _ _ (c .before .loop .inv .2) refl,
     )
 
-same-length : tie.Need-same-length Inv-loop μ-loop
-same-length c = c .before .loop .inv .1
-
 returns : tie.Need-returns Inv-loop μ-loop
 returns c =
-    let a = c .before .before .args in
+    let start : tie.Start Inv-loop μ-loop = search needs in let a = start .args in
     let end : c .before .loop .column ≡ a .count = omega arith in
     c .before .loop .inv .2 ∙ ap (λ n. fillRow (a .row) n (λ (k : ℕ). 0) (now (a .state))) end
 
 pub clear-row-spec : {M : Type 1} → statement M
 clear-row-spec =
-    tie.close
-    (tie.spec
-    Inv-loop
-    μ-loop
-    (λ c. search needs)
-    loop-holds
-    (λ c. search needs)
-    (λ c. search needs)
-    (λ c. search needs)
-    (λ c. search needs)
-    (λ c. search needs)
-    loop-again
-    same-length
-    returns)
+    tie.close (tie.spec Inv-loop μ-loop (λ c. search needs) loop-holds (λ c. search needs) (λ c. search needs)
+    (λ c. search needs) (λ c. search needs) (λ c. search needs) loop-again (λ c. c .before .loop .inv .1) returns)

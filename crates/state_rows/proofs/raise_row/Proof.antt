@@ -1,16 +1,9 @@
 -- `raise_row` meets its contract: after n turns the first n columns are raised.
-use Prim.Native.Nat.{ℕ, _+_, _-_, _%_, _≤_}
-use mathlib.Core.Path.{_≡_, refl, sym, ap, _∙_}
-use mathlib.Core.List.{List}
+use Rattle.base.proofs.Prelude.{ℕ, _+_, _-_, _%_, _≤_, _≡_, refl, sym, ap, _∙_, List, arith, length, length-set, now, needs, at}
 use native.Mathlib.Nat.{le-refl}
-use native.Mathlib.Omega.{arith}
-use lib.ListN.{length, length-set}
-use denote.Ref.{now}
-use Rattle.base.specs.Words.{at}
 use Rattle.state.specs.Layout.{place}
 use Rattle.state_rows.specs.Rows.{fillRow}
 use Rattle.state_rows.proofs.RowLaws.{fillRow-none, fillRow-turn, at-fillRow-past}
-use borrow.Author.Needs.{needs}
 use Rattle.state_rows.proofs.raise_row.Statement.{statement}
 use Rattle.state_rows.proofs.raise_row.Tie as tie
 
@@ -30,8 +23,9 @@ loop-holds c = (search needs, refl, sym (fillRow-none _ _ _))
 
 loop-again : tie.Need-loop-again Inv-loop μ-loop
 loop-again c =
-    let a = c .before .before .before .before .before .before .before .args in
-    let l = c .before .before .before .before .loop in
+    let at-loop : tie.At-loop Inv-loop μ-loop = search needs in
+    let start : tie.Start Inv-loop μ-loop = search needs in let a = start .args in
+    let l = at-loop .loop in
     let s = now (a .state) in
     let f = sum s (a .row) (now (a .values)) (a .from) in
     let word : at (l .state) (place (a .row) (l .column)) ≡ at s (place (a .row) (l .column)) =
@@ -43,35 +37,15 @@ loop-again c =
           (c .raised .ensures ∙ ap (λ w. (w + at (now (a .values)) (a .from + l .column) % 4294967296) % 4294967296) word),
     )
 
-same-length : tie.Need-same-length Inv-loop μ-loop
-same-length c = c .before .loop .inv .1
-
 returns : tie.Need-returns Inv-loop μ-loop
 returns c =
-    let a = c .before .before .before .before .args in
+    let start : tie.Start Inv-loop μ-loop = search needs in let a = start .args in
     let end : c .before .loop .column ≡ a .count = omega arith in
     c .before .loop .inv .2 ∙ ap (λ n. fillRow (a .row) n (sum (now (a .state)) (a .row) (now (a .values)) (a .from)) (now (a .state))) end
 
 pub raise-row-spec : {M : Type 1} → statement M
 raise-row-spec =
-    tie.close
-    (tie.spec
-    Inv-loop
-    μ-loop
-    (λ c. search needs)
-    loop-holds
-    (λ c. search needs)
-    (λ c. search needs)
-    (λ c. search needs)
-    (λ c. search needs)
-    (λ c. search needs)
-    (λ c. search needs)
-    (λ c κs. search needs)
-    (λ c. search needs)
-    (λ c. search needs)
-    (λ c. search needs)
-    (λ c. search needs)
-    (λ c. search needs)
-    loop-again
-    same-length
-    returns)
+    tie.close (tie.spec Inv-loop μ-loop (λ c. search needs) loop-holds (λ c. search needs) (λ c. search needs)
+    (λ c. search needs) (λ c. search needs) (λ c. search needs) (λ c. search needs) (λ c κs. search needs)
+    (λ c. search needs) (λ c. search needs) (λ c. search needs) (λ c. search needs) (λ c. search needs) loop-again
+    (λ c. c .before .loop .inv .1) returns)

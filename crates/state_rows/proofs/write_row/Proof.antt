@@ -1,14 +1,7 @@
 -- `write_row` meets its contract: after n turns the first n columns are written.
-use Prim.Native.Nat.{ℕ, _+_, _-_, _%_, _≤_}
-use mathlib.Core.Path.{_≡_, refl, sym, ap, _∙_}
-use mathlib.Core.List.{List}
-use native.Mathlib.Omega.{arith}
-use lib.ListN.{length, length-set}
-use denote.Ref.{now}
-use Rattle.base.specs.Words.{at}
+use Rattle.base.proofs.Prelude.{ℕ, _+_, _-_, _%_, _≤_, _≡_, refl, sym, ap, _∙_, List, arith, length, length-set, now, needs, at}
 use Rattle.state_rows.specs.Rows.{fillRow}
 use Rattle.state_rows.proofs.RowLaws.{fillRow-none, fillRow-turn}
-use borrow.Author.Needs.{needs}
 use Rattle.state_rows.proofs.write_row.Statement.{statement}
 use Rattle.state_rows.proofs.write_row.Tie as tie
 
@@ -28,38 +21,21 @@ loop-holds c = (search needs, refl, sym (fillRow-none _ _ _))
 
 loop-again : tie.Need-loop-again Inv-loop μ-loop
 loop-again c =
-    let a = c .before .before .before .args in (
+    let at-loop : tie.At-loop Inv-loop μ-loop = search needs in
+    let start : tie.Start Inv-loop μ-loop = search needs in let a = start .args in (
       search needs,
-      simp length-set (c .before .before .loop .inv .1),
-      fillRow-turn (a .row) (c .before .before .loop .column) (low (now (a .values)) (a .from)) _ _ _ (c .before .before .loop .inv .2) refl,
+      simp length-set (at-loop .loop .inv .1),
+      fillRow-turn (a .row) (at-loop .loop .column) (low (now (a .values)) (a .from)) _ _ _ (at-loop .loop .inv .2) refl,
     )
-
-same-length : tie.Need-same-length Inv-loop μ-loop
-same-length c = c .before .loop .inv .1
 
 returns : tie.Need-returns Inv-loop μ-loop
 returns c =
-    let a = c .before .before .args in
+    let start : tie.Start Inv-loop μ-loop = search needs in let a = start .args in
     let end : c .before .loop .column ≡ a .count = omega arith in
     c .before .loop .inv .2 ∙ ap (λ n. fillRow (a .row) n (low (now (a .values)) (a .from)) (now (a .state))) end
 
 pub write-row-spec : {M : Type 1} → statement M
 write-row-spec =
-    tie.close
-    (tie.spec
-    Inv-loop
-    μ-loop
-    (λ c. search needs)
-    loop-holds
-    (λ c. search needs)
-    (λ c. search needs)
-    (λ c. search needs)
-    (λ c. search needs)
-    (λ c. search needs)
-    (λ c. search needs)
-    (λ c. search needs)
-    (λ c. search needs)
-    (λ c. search needs)
-    loop-again
-    same-length
-    returns)
+    tie.close (tie.spec Inv-loop μ-loop (λ c. search needs) loop-holds (λ c. search needs) (λ c. search needs)
+    (λ c. search needs) (λ c. search needs) (λ c. search needs) (λ c. search needs) (λ c. search needs)
+    (λ c. search needs) (λ c. search needs) loop-again (λ c. c .before .loop .inv .1) returns)

@@ -1,11 +1,5 @@
 -- `clear` meets its contract: after i turns the first i numbers are 0.
-use Prim.Native.Nat.{ℕ, _-_, _≤_}
-use mathlib.Core.Path.{_≡_, refl, sym, ap, _∙_}
-use native.Mathlib.Omega.{arith}
-use borrow.Author.Needs.{needs}
-use lib.ListN.{length, length-set}
-use denote.Ref.{now}
-use Rattle.base.specs.Words.{fill}
+use Rattle.base.proofs.Prelude.{ℕ, _-_, _≤_, _≡_, refl, sym, ap, _∙_, arith, length, length-set, now, needs, fill}
 use Rattle.base.proofs.WordLaws.{fill-zero, fill-turn, fill-whole}
 use Rattle.step_4b.proofs.clear.Statement.{statement}
 use Rattle.step_4b.proofs.clear.Tie as tie
@@ -30,17 +24,15 @@ loop-again c = (
   fill-turn (c .before .loop .i) nothing _ _ _ (c .before .loop .inv .2) refl,
 )
 
-same-length : tie.Need-same-length Inv-loop μ-loop
-same-length c = c .before .loop .inv .1
-
 returns : tie.Need-returns Inv-loop μ-loop
 returns c =
-    let end : c .before .loop .i ≡ length (now (c .before .before .args .numbers)) = omega arith in
+    let start : tie.Start Inv-loop μ-loop = search needs in
+    let end : c .before .loop .i ≡ length (now (start .args .numbers)) = omega arith in
     c .before .loop .inv .2
-    ∙ ap (λ k. fill k nothing (now (c .before .before .args .numbers))) end
-    ∙ fill-whole _ nothing (now (c .before .before .args .numbers)) refl
+    ∙ ap (λ k. fill k nothing (now (start .args .numbers))) end
+    ∙ fill-whole _ nothing (now (start .args .numbers)) refl
 
 pub clear-spec : {M : Type 1} → statement M
 clear-spec =
-    tie.close
-    (tie.spec Inv-loop μ-loop loop-holds (λ c. search needs) (λ c. search needs) (λ c. search needs) (λ c. search needs) loop-again same-length returns)
+    tie.close (tie.spec Inv-loop μ-loop loop-holds (λ c. search needs) (λ c. search needs) (λ c. search needs)
+    (λ c. search needs) loop-again (λ c. c .before .loop .inv .1) returns)

@@ -1,7 +1,7 @@
 -- `keep_rank` meets its contract: a rank without kW changes nothing, any other is the definition's.
+use Rattle.base.proofs.Prelude.{needs}
 use Rattle.step_4b.specs.NewUse.{nextRank}
 use Rattle.step_4b.proofs.RankLaws.{nextRank-none}
-use borrow.Author.Needs.{needs}
 use Rattle.step_4b.proofs.keep_rank.Statement.{statement}
 use Rattle.step_4b.proofs.keep_rank.Tie as tie
 
@@ -14,11 +14,5 @@ returns-2 c = cc
 
 pub keep-rank-spec : {M : Type 1} → statement M
 keep-rank-spec =
-    tie.close
-    (tie.spec
-    returns
-    (λ c κs. search needs)
-    (λ c κs. search needs)
-    (λ c. search needs)
-    (λ c. search needs)
+    tie.close (tie.spec returns (λ c κs. search needs) (λ c κs. search needs) (λ c. search needs) (λ c. search needs)
     returns-2)

@@ -1,16 +1,8 @@
 -- `read` meets its contract: past the end a list reads 0.
-use mathlib.Core.Path.{sym}
+use Rattle.base.proofs.Prelude.{sym, now, needs}
 use lib.ListN.{List·getD-eq-default}
-use denote.Ref.{now}
-use borrow.Author.Needs.{needs}
 use Rattle.step_4b.proofs.read.Statement.{statement}
 use Rattle.step_4b.proofs.read.Tie as tie
-
-mul-result : tie.Need-mul-result
-mul-result c = search needs
-
-shared-slice-read-result : tie.Need-shared-slice-read-result
-shared-slice-read-result c = search needs
 
 returns : tie.Need-returns
 returns c = search needs
@@ -19,4 +11,5 @@ returns-2 : tie.Need-returns-2
 returns-2 c = sym (List·getD-eq-default (now (c .before .args .numbers)) 0 (c .if1 .left))
 
 pub read-spec : {M : Type 1} → statement M
-read-spec = tie.close (tie.spec mul-result shared-slice-read-result returns returns-2)
+read-spec =
+    tie.close (tie.spec (λ c. search needs) (λ c. search needs) returns returns-2)

@@ -1,19 +1,8 @@
 -- `store` meets its contract: past the end nothing is set.
-use mathlib.Core.Path.{sym}
+use Rattle.base.proofs.Prelude.{sym, now, needs}
 use lib.Seq.{set-out}
-use denote.Ref.{now}
-use borrow.Author.Needs.{needs}
 use Rattle.step_4b.proofs.store.Statement.{statement}
 use Rattle.step_4b.proofs.store.Tie as tie
-
-mul-numbers : tie.Need-mul-numbers
-mul-numbers c = search needs
-
-slice-write-numbers : tie.Need-slice-write-numbers
-slice-write-numbers c = search needs
-
-same-length : tie.Need-same-length
-same-length c = search needs
 
 returns : tie.Need-returns
 returns c = search needs
@@ -22,4 +11,5 @@ returns-2 : tie.Need-returns-2
 returns-2 c = sym (set-out (now (c .before .args .numbers)) (c .before .args .i) (c .before .args .number) (c .if1 .left))
 
 pub store-spec : {M : Type 1} → statement M
-store-spec = tie.close (tie.spec mul-numbers slice-write-numbers same-length returns returns-2)
+store-spec =
+    tie.close (tie.spec (λ c. search needs) (λ c. search needs) (λ c. search needs) returns returns-2)

@@ -1,9 +1,5 @@
 -- `exclude_round` meets its contract: after i turns the first i holders have the marks of the round (`LoopLaws`).
-use Prim.Native.Nat.{_-_}
-use native.Mathlib.Omega.{arith}
-use borrow.Author.Needs.{needs}
-use lib.ListN.{length}
-use denote.Ref.{now}
+use Rattle.base.proofs.Prelude.{_-_, arith, length, now, needs}
 use Rattle.step_5.proofs.FitLaws.{gross-within, held-addends, load-addends, loads-is, factors}
 use Rattle.step_5.proofs.LoopLaws.{Excluding, Tested, excluding-none, mark-most, excluding-next, excluding-all}
 use Rattle.step_5.proofs.exclude_round.Statement.{statement}
@@ -17,12 +13,14 @@ abbrev μ-loop : tie.MeasureT-loop
 
 gross-remaining-requires : tie.Need-gross-remaining-requires Inv-loop μ-loop
 gross-remaining-requires c κs =
-    let p = c .before .before .before .before .pre in
+    let start : tie.Start Inv-loop μ-loop = search needs in
+    let p = start .pre in
     held-addends _ _ _ _ (p .0) (p .1)
 
 sum-marked-requires : tie.Need-sum-marked-requires Inv-loop μ-loop
 sum-marked-requires c κs =
-    let p = c .before .before .before .before .before .before .pre in
+    let start : tie.Start Inv-loop μ-loop = search needs in
+    let p = start .pre in
     load-addends _ _ _ _ (p .0) (p .1)
 
 loop-holds : tie.Need-loop-holds Inv-loop μ-loop
@@ -30,10 +28,15 @@ loop-holds c = excluding-none _ _ _ _
 
 newly-excluded-requires : tie.Need-newly-excluded-requires Inv-loop μ-loop
 newly-excluded-requires c κs =
-    let p = c .before .before .before .before .before .before .before .before .before .before .before .before .pre in
-    factors _ _ _ _ (p .0) (p .1) (c .before .before .before .before .loop .i) _ _ (c .before .before .before .loop-test .taken)
-    (omega (arith, gross-within _ _ _ _ (c .before .before .before .before .before .before .before .gross-remaining .ensures)))
-    (loads-is _ _ _ _ (p .0) (p .1) _ (c .before .before .before .before .before .sum-marked .ensures))
+    let start : tie.Start Inv-loop μ-loop = search needs in
+    let at-loop : tie.At-loop Inv-loop μ-loop = search needs in
+    let in-loop : tie.In-loop Inv-loop μ-loop = search needs in
+    let after-gross-remaining : tie.After-gross-remaining Inv-loop μ-loop = search needs in
+    let after-sum-marked : tie.After-sum-marked Inv-loop μ-loop = search needs in
+    let p = start .pre in
+    factors _ _ _ _ (p .0) (p .1) (at-loop .loop .i) _ _ (in-loop .loop-test .taken)
+    (omega (arith, gross-within _ _ _ _ (after-gross-remaining .gross-remaining .ensures)))
+    (loads-is _ _ _ _ (p .0) (p .1) _ (after-sum-marked .sum-marked .ensures))
 
 -- the holder's test is the definition's
 tested : (c : tie.After-newly-excluded Inv-loop μ-loop) →
@@ -41,49 +44,44 @@ tested : (c : tie.After-newly-excluded Inv-loop μ-loop) →
     Tested (a .total) (now (a .held)) (now (a .loads)) (now (a .marks)) (c .before .before .before .before .before .loop .marks) (c .before .before .before .before .before .loop .i)
     (c .before .before .before .before .before .before .before .before .gross-remaining .result) (c .before .before .before .before .before .before .sum-marked .result) (c .newly-excluded .result)
 tested c =
-    let p = c .before .before .before .before .before .before .before .before .before .before .before .before .before .pre in
+    let start : tie.Start Inv-loop μ-loop = search needs in
+    let in-loop : tie.In-loop Inv-loop μ-loop = search needs in
+    let after-gross-remaining : tie.After-gross-remaining Inv-loop μ-loop = search needs in
+    let after-sum-marked : tie.After-sum-marked Inv-loop μ-loop = search needs in
+    let p = start .pre in
     record {
-      before = c .before .before .before .before .loop-test .taken;
-      gross-is = c .before .before .before .before .before .before .before .before .gross-remaining .ensures;
-      all-is = loads-is _ _ _ _ (p .0) (p .1) _ (c .before .before .before .before .before .before .sum-marked .ensures);
+      before = in-loop .loop-test .taken;
+      gross-is = after-gross-remaining .gross-remaining .ensures;
+      all-is = loads-is _ _ _ _ (p .0) (p .1) _ (after-sum-marked .sum-marked .ensures);
       out-is = c .newly-excluded .ensures;
     }
 
 add-marks : tie.Need-add-marks Inv-loop μ-loop
-add-marks c = omega (arith, mark-most _ _ _ _ _ _ _ _ _ _ (c .before .before .before .before .before .before .loop .inv) (tested (c .before)) (c .before .before .before .before .before .before .before .before .before .before .before .before .before .before .pre .1))
+add-marks c =
+    let at-loop : tie.At-loop Inv-loop μ-loop = search needs in
+    let start : tie.Start Inv-loop μ-loop = search needs in
+    omega (arith, mark-most _ _ _ _ _ _ _ _ _ _ (at-loop .loop .inv) (tested (c .before)) (start .pre .1))
 
 add-newly : tie.Need-add-newly Inv-loop μ-loop
 add-newly c =
-    let next = excluding-next _ _ _ _ _ _ _ _ _ _ (c .before .before .before .before .before .before .loop .inv) (tested (c .before)) in
-    omega (arith, next .inside, next .most, c .before .before .before .before .before .before .before .before .before .before .before .before .before .before .pre .0 .few)
+    let at-loop : tie.At-loop Inv-loop μ-loop = search needs in
+    let start : tie.Start Inv-loop μ-loop = search needs in
+    let next = excluding-next _ _ _ _ _ _ _ _ _ _ (at-loop .loop .inv) (tested (c .before)) in
+    omega (arith, next .inside, next .most, start .pre .0 .few)
 
 loop-again : tie.Need-loop-again Inv-loop μ-loop
-loop-again c = excluding-next _ _ _ _ _ _ _ _ _ _ (c .before .before .before .before .before .before .loop .inv) (tested (c .before))
+loop-again c =
+    let at-loop : tie.At-loop Inv-loop μ-loop = search needs in
+    excluding-next _ _ _ _ _ _ _ _ _ _ (at-loop .loop .inv) (tested (c .before))
 
 returns : tie.Need-returns Inv-loop μ-loop
-returns c = excluding-all _ _ _ _ _ _ _ (c .before .before .before .before .before .before .before .before .before .pre .1 .size) (c .before .loop .inv) (c .loop-test .left)
+returns c =
+    let start : tie.Start Inv-loop μ-loop = search needs in
+    excluding-all _ _ _ _ _ _ _ (start .pre .1 .size) (c .before .loop .inv) (c .loop-test .left)
 
 pub exclude-round-spec : {M : Type 1} → statement M
 exclude-round-spec =
-    tie.close
-    (tie.spec
-    Inv-loop
-    μ-loop
-    gross-remaining-requires
-    sum-marked-requires
-    loop-holds
-    (λ c. search needs)
-    (λ c. search needs)
-    (λ c. search needs)
-    (λ c. search needs)
-    (λ c. search needs)
-    newly-excluded-requires
-    (λ c. search needs)
-    add-marks
-    (λ c. search needs)
-    add-newly
-    (λ c. search needs)
-    (λ c. search needs)
-    loop-again
-    (λ c. search needs)
-    returns)
+    tie.close (tie.spec Inv-loop μ-loop gross-remaining-requires sum-marked-requires loop-holds (λ c. search needs)
+    (λ c. search needs) (λ c. search needs) (λ c. search needs) (λ c. search needs) newly-excluded-requires
+    (λ c. search needs) add-marks (λ c. search needs) add-newly (λ c. search needs) (λ c. search needs) loop-again
+    (λ c. search needs) returns)

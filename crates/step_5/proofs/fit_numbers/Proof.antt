@@ -1,13 +1,6 @@
 -- `fit_numbers` meets its contract: T is tested first, and each holder passed was in range.
-use Prim.Native.Nat.{_-_, _≤_}
-use mathlib.Core.Path.{_≡_, sym, _∙_}
-use mathlib.Core.Bool.{true}
-use native.Mathlib.Omega.{arith}
-use borrow.Author.Needs.{needs}
+use Rattle.base.proofs.Prelude.{_-_, _≤_, _≡_, sym, _∙_, true, arith, length, now, needs, allTo}
 use borrow.Author.Tests.{not-true, not-false}
-use lib.ListN.{length}
-use denote.Ref.{now}
-use Rattle.base.specs.Sums.{allTo}
 use Rattle.base.proofs.SumLaws.{allTo-zero, allTo-more}
 use Rattle.step_5.specs.Outcome.{inRange}
 use Rattle.step_5.proofs.FitLaws.{total-over, holder-over, all-fit}
@@ -28,35 +21,24 @@ loop-holds c = search (needs, allTo-zero)
 
 returns-2 : tie.Need-returns-2 Inv-loop μ-loop
 returns-2 c =
+    let at-loop : tie.At-loop Inv-loop μ-loop = search needs in
     sym
-    (holder-over _ _ _ (c .before .before .before .before .before .loop .i) (search needs) (sym (c .before .in-range .ensures) ∙ not-true _ (c .if2 .taken)))
+    (holder-over _ _ _ (at-loop .loop .i) (search needs) (sym (c .before .in-range .ensures) ∙ not-true _ (c .if2 .taken)))
 
 loop-again : tie.Need-loop-again Inv-loop μ-loop
-loop-again c = (
-  search needs,
-  allTo-more _ _ (c .before .before .before .before .before .loop .inv .1) (sym (c .before .in-range .ensures) ∙ not-false _ (c .if2 .left)),
-)
+loop-again c =
+    let at-loop : tie.At-loop Inv-loop μ-loop = search needs in (
+      search needs,
+      allTo-more _ _ (at-loop .loop .inv .1) (sym (c .before .in-range .ensures) ∙ not-false _ (c .if2 .left)),
+    )
 
 returns-3 : tie.Need-returns-3 Inv-loop μ-loop
 returns-3 c =
-    let end : c .before .loop .i ≡ length (now (c .before .before .before .before .before .args .held)) = omega arith in
+    let start : tie.Start Inv-loop μ-loop = search needs in
+    let end : c .before .loop .i ≡ length (now (start .args .held)) = omega arith in
     sym (all-fit _ _ _ (search needs) (rw end at (c .before .loop .inv .1)))
 
 pub fit-numbers-spec : {M : Type 1} → statement M
 fit-numbers-spec =
-    tie.close
-    (tie.spec
-    Inv-loop
-    μ-loop
-    returns
-    loop-holds
-    (λ c. search needs)
-    (λ c. search needs)
-    (λ c. search needs)
-    (λ c. search needs)
-    (λ c κs. search needs)
-    returns-2
-    (λ c. search needs)
-    (λ c. search needs)
-    loop-again
-    returns-3)
+    tie.close (tie.spec Inv-loop μ-loop returns loop-holds (λ c. search needs) (λ c. search needs) (λ c. search needs)
+    (λ c. search needs) (λ c κs. search needs) returns-2 (λ c. search needs) (λ c. search needs) loop-again returns-3)

@@ -1,10 +1,5 @@
 -- `settle` meets its contract: rounds from the marks of any turn end as rounds from the start, and a round that excludes none is the last.
-use Prim.Native.Nat.{_-_}
-use mathlib.Core.Path.{sym, ap, _∙_}
-use lib.ListN.{length}
-use denote.Ref.{now}
-use Rattle.base.specs.Sums.{sumTo}
-use Rattle.base.specs.Words.{at}
+use Rattle.base.proofs.Prelude.{_-_, sym, ap, _∙_, length, now, sumTo, at}
 use Rattle.step_5.proofs.RoundLaws.{marks-first}
 use Rattle.step_5.proofs.LoopLaws.{Settling, settling-first, settling-next, settling-less, settling-last}
 use Rattle.step_5.proofs.settle.Statement.{statement}
@@ -18,34 +13,41 @@ abbrev μ-loop : tie.MeasureT-loop
 μ-loop total held loads marks₀ marks = length held - sumTo (length held) (at marks)
 
 loop-holds : tie.Need-loop-holds Inv-loop μ-loop
-loop-holds c = rw (c .before .before .before .pre .1) (settling-first _ _ _)
+loop-holds c =
+    let start : tie.Start Inv-loop μ-loop = search needs in
+    rw (start .pre .1) (settling-first _ _ _)
 
 exclude-round-requires : tie.Need-exclude-round-requires Inv-loop μ-loop
-exclude-round-requires c κs = (c .before .before .before .before .before .pre .0, c .before .loop .inv .marks)
+exclude-round-requires c κs =
+    let start : tie.Start Inv-loop μ-loop = search needs in
+    (start .pre .0, c .before .loop .inv .marks)
 
 loop-less : tie.Need-loop-less Inv-loop μ-loop
-loop-less c = settling-less _ _ _ _ _ _ (c .before .before .before .before .before .loop .inv) (c .before .before .before .exclude-round .ensures) (c .if1 .left)
+loop-less c =
+    let at-loop : tie.At-loop Inv-loop μ-loop = search needs in
+    let after-exclude-round : tie.After-exclude-round Inv-loop μ-loop = search needs in
+    settling-less _ _ _ _ _ _ (at-loop .loop .inv) (after-exclude-round .exclude-round .ensures) (c .if1 .left)
 
 loop-again : tie.Need-loop-again Inv-loop μ-loop
-loop-again c = settling-next _ _ _ _ _ _ (c .before .before .before .before .before .loop .inv) (c .before .before .before .exclude-round .ensures)
+loop-again c =
+    let at-loop : tie.At-loop Inv-loop μ-loop = search needs in
+    let after-exclude-round : tie.After-exclude-round Inv-loop μ-loop = search needs in
+    settling-next _ _ _ _ _ _ (at-loop .loop .inv) (after-exclude-round .exclude-round .ensures)
 
 same-length : tie.Need-same-length Inv-loop μ-loop
 same-length c =
-    settling-next _ _ _ _ _ _ (c .before .before .before .before .before .loop .inv) (c .before .before .before .exclude-round .ensures) .marks .size
-    ∙ sym (ap length (c .before .before .before .before .before .before .before .before .before .pre .1) ∙ marks-first (now (c .before .before .before .before .before .before .before .before .before .args .held)) .size)
+    let at-loop : tie.At-loop Inv-loop μ-loop = search needs in
+    let after-exclude-round : tie.After-exclude-round Inv-loop μ-loop = search needs in
+    let start : tie.Start Inv-loop μ-loop = search needs in
+    settling-next _ _ _ _ _ _ (at-loop .loop .inv) (after-exclude-round .exclude-round .ensures) .marks .size
+    ∙ sym (ap length (start .pre .1) ∙ marks-first (now (start .args .held)) .size)
 
 returns : tie.Need-returns Inv-loop μ-loop
-returns c = settling-last _ _ _ _ _ _ (c .before .before .before .before .before .loop .inv) (c .before .before .before .exclude-round .ensures) (c .if1 .taken)
+returns c =
+    let at-loop : tie.At-loop Inv-loop μ-loop = search needs in
+    let after-exclude-round : tie.After-exclude-round Inv-loop μ-loop = search needs in
+    settling-last _ _ _ _ _ _ (at-loop .loop .inv) (after-exclude-round .exclude-round .ensures) (c .if1 .taken)
 
 pub settle-spec : {M : Type 1} → statement M
 settle-spec =
-    tie.close
-    (tie.spec
-    Inv-loop
-    μ-loop
-    loop-holds
-    exclude-round-requires
-    loop-less
-    loop-again
-    same-length
-    returns)
+    tie.close (tie.spec Inv-loop μ-loop loop-holds exclude-round-requires loop-less loop-again same-length returns)

@@ -1,9 +1,5 @@
 -- `sum_marked` meets its contract: after i turns the sum is that of the first i holders with the mark (`LoopLaws`).
-use Prim.Native.Nat.{_+_, _-_}
-use native.Mathlib.Omega.{arith}
-use borrow.Author.Needs.{needs}
-use lib.ListN.{length}
-use denote.Ref.{now}
+use Rattle.base.proofs.Prelude.{_+_, _-_, arith, length, now, needs}
 use Rattle.step_5.proofs.LoopLaws.{Summed, summed-none, summed-next, summed-all}
 use Rattle.step_5.proofs.sum_marked.Statement.{statement}
 use Rattle.step_5.proofs.sum_marked.Tie as tie
@@ -22,10 +18,15 @@ next : (c : tie.After-if-marked Inv-loop μ-loop) →
     let a = c .before .before .before .before .before .before .before .args in
     Summed (a .mark) (now (a .marks)) (now (a .numbers)) (c .before .before .before .before .loop .sum + c .if-marked .result) (c .before .before .before .before .loop .i + 1)
 next c =
-    summed-next _ _ _ _ _ _ (c .before .before .before .before .before .before .before .pre) (c .before .before .before .before .loop .inv) (c .before .before .before .loop-test .taken) (c .if-marked .ensures)
+    let start : tie.Start Inv-loop μ-loop = search needs in
+    let at-loop : tie.At-loop Inv-loop μ-loop = search needs in
+    let in-loop : tie.In-loop Inv-loop μ-loop = search needs in
+    summed-next _ _ _ _ _ _ (start .pre) (at-loop .loop .inv) (in-loop .loop-test .taken) (c .if-marked .ensures)
 
 add-sum : tie.Need-add-sum Inv-loop μ-loop
-add-sum c = omega (arith, next c .inside, next c .most, c .before .before .before .before .before .before .before .pre .few)
+add-sum c =
+    let start : tie.Start Inv-loop μ-loop = search needs in
+    omega (arith, next c .inside, next c .most, start .pre .few)
 
 loop-again : tie.Need-loop-again Inv-loop μ-loop
 loop-again c = next c
@@ -35,17 +36,5 @@ returns c = summed-all _ _ _ _ _ (c .before .loop .inv) (c .loop-test .left)
 
 pub sum-marked-spec : {M : Type 1} → statement M
 sum-marked-spec =
-    tie.close
-    (tie.spec
-    Inv-loop
-    μ-loop
-    loop-holds
-    (λ c. search needs)
-    (λ c. search needs)
-    (λ c. search needs)
-    (λ c κs. search needs)
-    add-sum
-    (λ c. search needs)
-    (λ c. search needs)
-    loop-again
-    returns)
+    tie.close (tie.spec Inv-loop μ-loop loop-holds (λ c. search needs) (λ c. search needs) (λ c. search needs)
+    (λ c κs. search needs) add-sum (λ c. search needs) (λ c. search needs) loop-again returns)

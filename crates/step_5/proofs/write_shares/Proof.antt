@@ -1,8 +1,5 @@
 -- `write_shares` meets its contract: after i turns the first i shares are written (`LoopLaws`).
-use Prim.Native.Nat.{_-_}
-use native.Mathlib.Omega.{arith}
-use borrow.Author.Needs.{needs}
-use lib.ListN.{length}
+use Rattle.base.proofs.Prelude.{_-_, arith, length, needs}
 use Rattle.step_5.proofs.FitLaws.{held-addends, load-addends, loads-is}
 use Rattle.step_5.proofs.LoopLaws.{Sharing, sharing-none, sharing-next, sharing-all, settled-is, quota-is}
 use Rattle.step_5.proofs.write_shares.Statement.{statement}
@@ -16,62 +13,58 @@ abbrev μ-loop : tie.MeasureT-loop
 
 gross-remaining-requires : tie.Need-gross-remaining-requires Inv-loop μ-loop
 gross-remaining-requires c κs =
-    let p = c .before .before .before .before .pre in
+    let start : tie.Start Inv-loop μ-loop = search needs in
+    let p = start .pre in
     held-addends _ _ _ _ (p .0) (settled-is _ _ _ _ (p .1) .marks)
 
 sum-marked-requires : tie.Need-sum-marked-requires Inv-loop μ-loop
 sum-marked-requires c κs =
-    let p = c .before .before .before .before .before .pre in
+    let start : tie.Start Inv-loop μ-loop = search needs in
+    let p = start .pre in
     load-addends _ _ _ _ (p .0) (settled-is _ _ _ _ (p .1) .marks)
 
 loop-holds : tie.Need-loop-holds Inv-loop μ-loop
 loop-holds c = sharing-none _ _ _ _ _
 
 shared-slice-read-share-of : tie.Need-shared-slice-read-share-of Inv-loop μ-loop
-shared-slice-read-share-of c = omega (arith, settled-is _ _ _ _ (c .before .before .before .before .before .before .before .before .before .pre .1) .marks .size)
+shared-slice-read-share-of c =
+    let start : tie.Start Inv-loop μ-loop = search needs in
+    omega (arith, settled-is _ _ _ _ (start .pre .1) .marks .size)
 
 share-of-requires : tie.Need-share-of-requires Inv-loop μ-loop
 share-of-requires c κs =
-    let p = c .before .before .before .before .before .before .before .before .before .before .before .pre in
-    quota-is _ _ _ _ (c .before .before .before .before .loop .i) _ _ (p .0) (p .1) (c .before .before .before .loop-test .taken)
-    (c .before .before .before .before .before .before .gross-remaining .ensures)
-    (loads-is _ _ _ _ (p .0) (settled-is _ _ _ _ (p .1) .marks) _ (c .before .before .before .before .before .sum-marked .ensures))
+    let start : tie.Start Inv-loop μ-loop = search needs in
+    let at-loop : tie.At-loop Inv-loop μ-loop = search needs in
+    let in-loop : tie.In-loop Inv-loop μ-loop = search needs in
+    let after-gross-remaining : tie.After-gross-remaining Inv-loop μ-loop = search needs in
+    let after-sum-marked : tie.After-sum-marked Inv-loop μ-loop = search needs in
+    let p = start .pre in
+    quota-is _ _ _ _ (at-loop .loop .i) _ _ (p .0) (p .1) (in-loop .loop-test .taken)
+    (after-gross-remaining .gross-remaining .ensures)
+    (loads-is _ _ _ _ (p .0) (settled-is _ _ _ _ (p .1) .marks) _ (after-sum-marked .sum-marked .ensures))
 
 loop-again : tie.Need-loop-again Inv-loop μ-loop
 loop-again c =
-    let p = c .before .before .before .before .before .before .before .before .before .before .before .before .pre in
-    sharing-next _ _ _ _ _ _ (c .before .before .before .before .before .loop .i) _ _ _ (c .before .before .before .before .before .loop .inv) (c .before .before .before .before .loop-test .taken)
-    (c .before .before .before .before .before .before .before .gross-remaining .ensures)
-    (loads-is _ _ _ _ (p .0) (settled-is _ _ _ _ (p .1) .marks) _ (c .before .before .before .before .before .before .sum-marked .ensures))
+    let start : tie.Start Inv-loop μ-loop = search needs in
+    let at-loop : tie.At-loop Inv-loop μ-loop = search needs in
+    let in-loop : tie.In-loop Inv-loop μ-loop = search needs in
+    let after-gross-remaining : tie.After-gross-remaining Inv-loop μ-loop = search needs in
+    let after-sum-marked : tie.After-sum-marked Inv-loop μ-loop = search needs in
+    let p = start .pre in
+    sharing-next _ _ _ _ _ _ (at-loop .loop .i) _ _ _ (at-loop .loop .inv) (in-loop .loop-test .taken)
+    (after-gross-remaining .gross-remaining .ensures)
+    (loads-is _ _ _ _ (p .0) (settled-is _ _ _ _ (p .1) .marks) _ (after-sum-marked .sum-marked .ensures))
     (c .share-of .ensures)
-
-same-length : tie.Need-same-length Inv-loop μ-loop
-same-length c = c .before .loop .inv .size
 
 returns : tie.Need-returns Inv-loop μ-loop
 returns c =
-    let p = c .before .before .before .before .before .before .before .before .pre in
+    let start : tie.Start Inv-loop μ-loop = search needs in
+    let p = start .pre in
     sharing-all _ _ _ _ _ _ _ (p .2) (c .before .loop .inv) (c .loop-test .left) (p .1)
 
 pub write-shares-spec : {M : Type 1} → statement M
 write-shares-spec =
-    tie.close
-    (tie.spec
-    Inv-loop
-    μ-loop
-    gross-remaining-requires
-    sum-marked-requires
-    loop-holds
-    shared-slice-read-share-of
-    (λ c. search needs)
-    (λ c. search needs)
-    (λ c. search needs)
-    (λ c. search needs)
-    share-of-requires
-    (λ c. search needs)
-    (λ c. search needs)
-    (λ c. search needs)
-    (λ c. search needs)
-    loop-again
-    same-length
-    returns)
+    tie.close (tie.spec Inv-loop μ-loop gross-remaining-requires sum-marked-requires loop-holds
+    shared-slice-read-share-of (λ c. search needs) (λ c. search needs) (λ c. search needs) (λ c. search needs)
+    share-of-requires (λ c. search needs) (λ c. search needs) (λ c. search needs) (λ c. search needs) loop-again
+    (λ c. c .before .loop .inv .size) returns)

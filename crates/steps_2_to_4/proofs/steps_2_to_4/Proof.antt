@@ -1,26 +1,26 @@
 -- `steps_2_to_4` meets its contract: each step is handed what the one before left (`StepLaws`).
+use Rattle.base.proofs.Prelude.{needs}
 use Rattle.steps_2_to_4.proofs.StepLaws.{step-2-given, reserving, rows-taken}
-use borrow.Author.Needs.{needs}
 use Rattle.steps_2_to_4.proofs.steps_2_to_4.Statement.{statement}
 use Rattle.steps_2_to_4.proofs.steps_2_to_4.Tie as tie
 
 step-2-requires : tie.Need-step-2-requires
-step-2-requires c κs = step-2-given _ _ _ _ _ _ _ (c .before .before .before .before .before .before .before .before .before .pre)
+step-2-requires c κs =
+    let start : tie.Start = search needs in
+    step-2-given _ _ _ _ _ _ _ (start .pre)
 
 reserve-requires : tie.Need-reserve-requires
-reserve-requires c κs = reserving _ _ _ _ _ _ _ (c .before .before .before .before .before .before .before .before .before .before .before .before .before .before .before .before .before .before .pre) _ _ _ (c .before .before .before .before .before .before .before .before .step-2 .ensures)
+reserve-requires c κs =
+    let start : tie.Start = search needs in let after-step-2 : tie.After-step-2 = search needs in
+    reserving _ _ _ _ _ _ _ (start .pre) _ _ _ (after-step-2 .step-2 .ensures)
 
 returns : tie.Need-returns
-returns c = rows-taken _ _ _ _ _ _ _ (c .before .before .before .before .before .before .before .before .before .before .before .before .before .before .before .before .before .before .before .before .before .before .before .before .before .pre) _ _ _ (c .before .before .before .before .before .before .before .before .before .before .before .before .before .before .before .step-2 .ensures) _ _ _ (c .before .before .before .before .before .before .reserve .ensures)
+returns c =
+    let start : tie.Start = search needs in let after-step-2 : tie.After-step-2 = search needs in
+    let after-reserve : tie.After-reserve = search needs in
+    rows-taken _ _ _ _ _ _ _ (start .pre) _ _ _ (after-step-2 .step-2 .ensures) _ _ _ (after-reserve .reserve .ensures)
 
 pub steps-2-to-4-spec : {M : Type 1} → statement M
 steps-2-to-4-spec =
-    tie.close
-    (tie.spec
-    step-2-requires
-    reserve-requires
-    (λ c. search needs)
-    (λ c. search needs)
-    (λ c. search needs)
-    (λ c. search needs)
-    returns)
+    tie.close (tie.spec step-2-requires reserve-requires (λ c. search needs) (λ c. search needs) (λ c. search needs)
+    (λ c. search needs) returns)

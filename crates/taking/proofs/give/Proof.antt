@@ -1,29 +1,19 @@
 -- `give` meets its contract: it reads both words and stores both.
-use denote.Ref.{now}
+use Rattle.base.proofs.Prelude.{now, needs}
 use Rattle.state.specs.Layout.{unassignedAt, takenAt}
 use Rattle.call.proofs.StoreLaws.{carried}
-use borrow.Author.Needs.{needs}
 use Rattle.taking.proofs.give.Statement.{statement}
 use Rattle.taking.proofs.give.Tie as tie
 
 returns : tie.Need-returns
 returns c =
-    let second = c .before .before in
-    let first = second .before .before .before .before in
-    let read = first .before .before in
-    let a = read .before .before .before .before .before .args in
+    let after-store-pair : tie.After-store-pair = search needs in let after-store : tie.After-store = search needs in
+    let after-pair-word : tie.After-pair-word = search needs in let after-word : tie.After-word = search needs in
+    let start : tie.Start = search needs in let a = start .args in
     carried (now (a .state)) (unassignedAt (a .intertie)) (takenAt (a .holder) (a .intertie)) (a .kw)
-    (read .before .before .word .ensures) (read .pair-word .ensures) (first .store .ensures) (second .store-pair .ensures)
+    (after-word .word .ensures) (after-pair-word .pair-word .ensures) (after-store .store .ensures) (after-store-pair .store-pair .ensures)
 
 pub give-spec : {M : Type 1} → statement M
 give-spec =
-    tie.close
-    (tie.spec
-    (λ c κs. search needs)
-    (λ c κs. search needs)
-    (λ c. search needs)
-    (λ c κs. search needs)
-    (λ c. search needs)
-    (λ c κs. search needs)
-    (λ c. search needs)
-    returns)
+    tie.close (tie.spec (λ c κs. search needs) (λ c κs. search needs) (λ c. search needs) (λ c κs. search needs)
+    (λ c. search needs) (λ c κs. search needs) (λ c. search needs) returns)

@@ -1,7 +1,7 @@
 -- `take_refusal` meets its contract: the numbers are tried in turn.
+use Rattle.base.proofs.Prelude.{needs}
 use Rattle.call.proofs.LadderLaws.{turns}
 use Rattle.taking.specs.Take.{takeRefusal}
-use borrow.Author.Needs.{needs}
 use Rattle.taking.proofs.take_refusal.Statement.{statement}
 use Rattle.taking.proofs.take_refusal.Tie as tie
 
@@ -35,18 +35,6 @@ returns-7 c = search turns depth 8
 
 pub take-refusal-spec : {M : Type 1} → statement M
 take-refusal-spec =
-    tie.close
-    (tie.spec
-    (λ c κs. search needs)
-    returns
-    (λ c κs. search needs)
-    returns-2
-    (λ c κs. search needs)
-    returns-3
-    (λ c κs. search needs)
-    returns-4
-    (λ c κs. search needs)
-    returns-5
-    (λ c κs. search needs)
-    returns-6
+    tie.close (tie.spec (λ c κs. search needs) returns (λ c κs. search needs) returns-2 (λ c κs. search needs)
+    returns-3 (λ c κs. search needs) returns-4 (λ c κs. search needs) returns-5 (λ c κs. search needs) returns-6
     returns-7)

@@ -1,14 +1,8 @@
 -- `over_unplaced_with_pending` meets its contract, by its two returns.
-use borrow.Author.Needs.{needs}
+use Rattle.base.proofs.Prelude.{needs}
 use Rattle.trading.proofs.RequestLaws.{over-by-pending, over-by-rest}
 use Rattle.trading.proofs.over_unplaced_with_pending.Statement.{statement}
 use Rattle.trading.proofs.over_unplaced_with_pending.Tie as tie
-
-unplaced-requires : tie.Need-unplaced-requires
-unplaced-requires c κs = search needs
-
-of-holder-requires : tie.Need-of-holder-requires
-of-holder-requires c κs = search needs
 
 returns : tie.Need-returns
 returns c = search over-by-pending
@@ -18,4 +12,4 @@ returns-2 c = search over-by-rest
 
 pub over-unplaced-with-pending-spec : {M : Type 1} → statement M
 over-unplaced-with-pending-spec =
-    tie.close (tie.spec unplaced-requires of-holder-requires returns returns-2)
+    tie.close (tie.spec (λ c κs. search needs) (λ c κs. search needs) returns returns-2)

@@ -1,5 +1,5 @@
 -- `request_refusal` meets its contract: the numbers are tried in turn.
-use borrow.Author.Needs.{needs}
+use Rattle.base.proofs.Prelude.{needs}
 use Rattle.trading.specs.Request.{requestRefusal}
 use Rattle.call.proofs.LadderLaws.{turns}
 use Rattle.trading.proofs.request_refusal.Statement.{statement}
@@ -31,16 +31,5 @@ returns-6 c = search turns depth 8
 
 pub request-refusal-spec : {M : Type 1} → statement M
 request-refusal-spec =
-    tie.close
-    (tie.spec
-    (λ c κs. search needs)
-    returns
-    (λ c κs. search needs)
-    returns-2
-    (λ c κs. search needs)
-    returns-3
-    (λ c κs. search needs)
-    returns-4
-    (λ c κs. search needs)
-    returns-5
-    returns-6)
+    tie.close (tie.spec (λ c κs. search needs) returns (λ c κs. search needs) returns-2 (λ c κs. search needs)
+    returns-3 (λ c κs. search needs) returns-4 (λ c κs. search needs) returns-5 returns-6)

@@ -1,7 +1,6 @@
 -- `read_calls` meets its contract: a journal that was read has no more calls than there is room for.
-use denote.Ref.{now}
+use Rattle.base.proofs.Prelude.{now, needs}
 use Rattle.year.proofs.JournalLaws.{calls-few}
-use borrow.Author.Needs.{needs}
 use Rattle.year.proofs.read_calls.Statement.{statement}
 use Rattle.year.proofs.read_calls.Tie as tie
 
@@ -10,17 +9,6 @@ returns-4 c = calls-few _ (now (c .before .before .before .before .before .befor
 
 pub read-calls-spec : {M : Type 1} → statement M
 read-calls-spec =
-    tie.close
-    (tie.spec
-    (λ c κs. search needs)
-    (λ c κs. search needs)
-    (λ c. search needs)
-    (λ c κs. search needs)
-    (λ c κs. search needs)
-    (λ c. search needs)
-    (λ c. search needs)
-    (λ c κs. search needs)
-    (λ c κs. search needs)
-    (λ c κs. search needs)
-    (λ c. search needs)
-    returns-4)
+    tie.close (tie.spec (λ c κs. search needs) (λ c κs. search needs) (λ c. search needs) (λ c κs. search needs)
+    (λ c κs. search needs) (λ c. search needs) (λ c. search needs) (λ c κs. search needs) (λ c κs. search needs)
+    (λ c κs. search needs) (λ c. search needs) returns-4)

@@ -1,11 +1,6 @@
 -- `locks::add_holder_locks` meets its contract: after i interties the draft has the holder's locks on them.
-use Prim.Native.Nat.{ℕ, _+_, _-_, _*_, _≤_}
-use mathlib.Core.Path.{_≡_, sym, ap, _∙_}
-use mathlib.Core.List.{List}
+use Rattle.base.proofs.Prelude.{ℕ, _+_, _-_, _*_, _≤_, _≡_, sym, ap, _∙_, List, arith, now, needs}
 use native.Mathlib.Nat.{le-antisymm}
-use native.Mathlib.Omega.{arith}
-use borrow.Author.Needs.{needs}
-use denote.Ref.{now}
 use Rattle.state.specs.Layout.{interties}
 use Rattle.carrying.specs.Line.{Line}
 use Rattle.carrying.specs.Lines.{withLock, withLocksOf}
@@ -25,32 +20,37 @@ abbrev μ-loop : tie.MeasureT-loop
 
 loop-holds : tie.Need-loop-holds Inv-loop μ-loop
 loop-holds c =
-    let a = c .before .before .args in (
+    let start : tie.Start Inv-loop μ-loop = search needs in let a = start .args in (
       search needs,
-      bounded-up (now (a .ranks)) (a .place) (1024 + 48 * a .holder) (1024 + 48 * a .holder + 0) (search needs) (c .before .before .pre .2),
+      bounded-up (now (a .ranks)) (a .place) (1024 + 48 * a .holder) (1024 + 48 * a .holder + 0) (search needs) (start .pre .2),
       λ l d. drafted-as (now (a .keys)) (now (a .kws)) (now (a .ranks)) (a .place) l (withLocksOf (now (a .state)) (a .holder) 0 l) (sym (locks-of-none (now (a .state)) (a .holder) l)) d,
     )
 
 add-lock-requires : tie.Need-add-lock-requires Inv-loop μ-loop
-add-lock-requires c κs = (c .before .before .before .before .before .before .before .pre .0, search needs, c .before .before .before .before .loop .inv .1)
+add-lock-requires c κs =
+    let start : tie.Start Inv-loop μ-loop = search needs in
+    let at-loop : tie.At-loop Inv-loop μ-loop = search needs in
+    (start .pre .0, search needs, at-loop .loop .inv .1)
 
 loop-again : tie.Need-loop-again Inv-loop μ-loop
 loop-again c =
-    let a = c .before .before .before .before .before .before .before .before .args in
-    let i = c .before .before .before .before .before .loop .intertie in (
+    let at-loop : tie.At-loop Inv-loop μ-loop = search needs in
+    let start : tie.Start Inv-loop μ-loop = search needs in let a = start .args in
+    let i = at-loop .loop .intertie in (
       search needs,
       bounded-up _ _ (1024 + 48 * a .holder + i + 1) (1024 + 48 * a .holder + (i + 1)) (omega arith) (c .add-lock .ensures .0),
       λ l d.
           drafted-as _ _ _ _ (withLock (now (a .state)) (a .holder) i (withLocksOf (now (a .state)) (a .holder) i l)) (withLocksOf (now (a .state)) (a .holder) (i + 1) l)
-          (sym (locks-of-more (now (a .state)) (a .holder) i l)) (c .add-lock .ensures .1 (withLocksOf (now (a .state)) (a .holder) i l) (c .before .before .before .before .before .loop .inv .2 l d)),
+          (sym (locks-of-more (now (a .state)) (a .holder) i l)) (c .add-lock .ensures .1 (withLocksOf (now (a .state)) (a .holder) i l) (at-loop .loop .inv .2 l d)),
     )
 
 returns : tie.Need-returns Inv-loop μ-loop
 returns c =
-    let a = c .before .before .before .before .args in
+    let after-word : tie.After-word Inv-loop μ-loop = search needs in
+    let start : tie.Start Inv-loop μ-loop = search needs in let a = start .args in
     let i = c .before .loop .intertie in
-    let few : interties (now (a .state)) ≤ 48 = c .before .before .before .before .pre .1 in
-    let end : i ≡ interties (now (a .state)) = le-antisymm (c .before .loop .inv .0) (c .loop-test .left) ∙ c .before .before .word .ensures in (
+    let few : interties (now (a .state)) ≤ 48 = start .pre .1 in
+    let end : i ≡ interties (now (a .state)) = le-antisymm (c .before .loop .inv .0) (c .loop-test .left) ∙ after-word .word .ensures in (
       bounded-up _ _ (1024 + 48 * a .holder + i) (1024 + 48 * (a .holder + 1)) (omega arith) (c .before .loop .inv .1),
       λ l d.
           drafted-as _ _ _ _ (withLocksOf (now (a .state)) (a .holder) i l) (withLocksOf (now (a .state)) (a .holder) (interties (now (a .state))) l)
@@ -59,14 +59,5 @@ returns c =
 
 pub add-holder-locks-spec : {M : Type 1} → statement M
 add-holder-locks-spec =
-    tie.close
-    (tie.spec
-    Inv-loop
-    μ-loop
-    (λ c κs. search needs)
-    loop-holds
-    add-lock-requires
-    (λ c. search needs)
-    (λ c. search needs)
-    loop-again
-    returns)
+    tie.close (tie.spec Inv-loop μ-loop (λ c κs. search needs) loop-holds add-lock-requires (λ c. search needs)
+    (λ c. search needs) loop-again returns)

@@ -1,11 +1,6 @@
 -- `locks::add_locks` meets its contract: after h holders the draft has their locks.
-use Prim.Native.Nat.{ℕ, _+_, _-_, _*_, _≤_}
-use mathlib.Core.Path.{_≡_, sym, ap, _∙_}
-use mathlib.Core.List.{List}
+use Rattle.base.proofs.Prelude.{ℕ, _+_, _-_, _*_, _≤_, _≡_, sym, ap, _∙_, List, arith, now, needs}
 use native.Mathlib.Nat.{le-antisymm}
-use native.Mathlib.Omega.{arith}
-use borrow.Author.Needs.{needs}
-use denote.Ref.{now}
 use Rattle.state.specs.Layout.{interties, holders}
 use Rattle.carrying.specs.Line.{Line}
 use Rattle.carrying.specs.Lines.{withLocksOf, withLocks}
@@ -25,34 +20,40 @@ abbrev μ-loop : tie.MeasureT-loop
 
 loop-holds : tie.Need-loop-holds Inv-loop μ-loop
 loop-holds c =
-    let a = c .before .before .args in (
+    let start : tie.Start Inv-loop μ-loop = search needs in let a = start .args in (
       search needs,
-      bounded-up (now (a .ranks)) (a .place) 1024 (1024 + 48 * 0) (search needs) (c .before .before .pre .2),
+      bounded-up (now (a .ranks)) (a .place) 1024 (1024 + 48 * 0) (search needs) (start .pre .2),
       λ l d. drafted-as (now (a .keys)) (now (a .kws)) (now (a .ranks)) (a .place) l (withLocks (now (a .state)) 0 l) (sym (locks-none (now (a .state)) l)) d,
     )
 
 add-holder-locks-requires : tie.Need-add-holder-locks-requires Inv-loop μ-loop
 add-holder-locks-requires c κs =
-    let few : holders (now (c .before .before .before .before .before .before .before .args .state)) ≤ 32 = c .before .before .before .before .before .before .before .pre .1 in
-    (omega (arith, c .before .before .before .loop-test .taken, c .before .before .before .before .before .word .ensures), c .before .before .before .before .before .before .before .pre .0, c .before .before .before .before .loop .inv .1)
+    let start : tie.Start Inv-loop μ-loop = search needs in
+    let in-loop : tie.In-loop Inv-loop μ-loop = search needs in
+    let after-word : tie.After-word Inv-loop μ-loop = search needs in
+    let at-loop : tie.At-loop Inv-loop μ-loop = search needs in
+    let few : holders (now (start .args .state)) ≤ 32 = start .pre .1 in
+    (omega (arith, in-loop .loop-test .taken, after-word .word .ensures), start .pre .0, at-loop .loop .inv .1)
 
 loop-again : tie.Need-loop-again Inv-loop μ-loop
 loop-again c =
-    let a = c .before .before .before .before .before .before .before .before .args in
-    let h = c .before .before .before .before .before .loop .holder in (
+    let at-loop : tie.At-loop Inv-loop μ-loop = search needs in
+    let start : tie.Start Inv-loop μ-loop = search needs in let a = start .args in
+    let h = at-loop .loop .holder in (
       search needs,
       c .add-holder-locks .ensures .0,
       λ l d.
           drafted-as _ _ _ _ (withLocksOf (now (a .state)) h (interties (now (a .state))) (withLocks (now (a .state)) h l)) (withLocks (now (a .state)) (h + 1) l)
-          (sym (locks-more (now (a .state)) h l)) (c .add-holder-locks .ensures .1 (withLocks (now (a .state)) h l) (c .before .before .before .before .before .loop .inv .2 l d)),
+          (sym (locks-more (now (a .state)) h l)) (c .add-holder-locks .ensures .1 (withLocks (now (a .state)) h l) (at-loop .loop .inv .2 l d)),
     )
 
 returns : tie.Need-returns Inv-loop μ-loop
 returns c =
-    let a = c .before .before .before .before .args in
+    let after-word : tie.After-word Inv-loop μ-loop = search needs in
+    let start : tie.Start Inv-loop μ-loop = search needs in let a = start .args in
     let h = c .before .loop .holder in
-    let few : holders (now (a .state)) ≤ 32 = c .before .before .before .before .pre .1 in
-    let end : h ≡ holders (now (a .state)) = le-antisymm (c .before .loop .inv .0) (c .loop-test .left) ∙ c .before .before .word .ensures in (
+    let few : holders (now (a .state)) ≤ 32 = start .pre .1 in
+    let end : h ≡ holders (now (a .state)) = le-antisymm (c .before .loop .inv .0) (c .loop-test .left) ∙ after-word .word .ensures in (
       omega (arith, c .before .loop .inv .1 .few),
       λ l d.
           drafted-as _ _ _ _ (withLocks (now (a .state)) h l) (withLocks (now (a .state)) (holders (now (a .state))) l)
@@ -61,14 +62,5 @@ returns c =
 
 pub add-locks-spec : {M : Type 1} → statement M
 add-locks-spec =
-    tie.close
-    (tie.spec
-    Inv-loop
-    μ-loop
-    (λ c κs. search needs)
-    loop-holds
-    add-holder-locks-requires
-    (λ c. search needs)
-    (λ c. search needs)
-    loop-again
-    returns)
+    tie.close (tie.spec Inv-loop μ-loop (λ c κs. search needs) loop-holds add-holder-locks-requires
+    (λ c. search needs) (λ c. search needs) loop-again returns)

@@ -1,13 +1,5 @@
 -- `locks::ranks_fit` meets its contract: every rank passed was tested.
-use Prim.Native.Nat.{ℕ, _-_, _≤_}
-use mathlib.Core.Path.{_≡_, refl, sym}
-use mathlib.Core.Bool.{Bool}
-use mathlib.Core.List.{List}
-use lib.Dec.{leb}
-use borrow.Author.Needs.{needs}
-use denote.Ref.{now}
-use Rattle.base.specs.Sums.{allTo}
-use Rattle.base.specs.Words.{at}
+use Rattle.base.proofs.Prelude.{ℕ, _-_, _≤_, _≡_, refl, sym, List, Bool, leb, now, needs, allTo, at}
 use Rattle.base.proofs.SumLaws.{allTo-zero, all-more, all-done}
 use Rattle.carrying.proofs.locks.ranks_fit.Statement.{statement}
 use Rattle.carrying.proofs.locks.ranks_fit.Tie as tie
@@ -26,21 +18,17 @@ loop-holds : tie.Need-loop-holds Inv-loop μ-loop
 loop-holds c = (search needs, sym (allTo-zero _))
 
 loop-again : tie.Need-loop-again Inv-loop μ-loop
-loop-again c = (search needs, all-more _ (low (now (c .before .before .before .args .ranks))) _ _ (c .before .before .loop .inv .1) refl)
+loop-again c =
+    let start : tie.Start Inv-loop μ-loop = search needs in
+    let at-loop : tie.At-loop Inv-loop μ-loop = search needs in
+    (search needs, all-more _ (low (now (start .args .ranks))) _ _ (at-loop .loop .inv .1) refl)
 
 returns : tie.Need-returns Inv-loop μ-loop
-returns c = all-done _ _ (low (now (c .before .before .args .ranks))) _ (c .before .loop .inv .1) (c .before .loop .inv .0) (search needs)
+returns c =
+    let start : tie.Start Inv-loop μ-loop = search needs in
+    all-done _ _ (low (now (start .args .ranks))) _ (c .before .loop .inv .1) (c .before .loop .inv .0) (search needs)
 
 pub ranks-fit-spec : {M : Type 1} → statement M
 ranks-fit-spec =
-    tie.close
-    (tie.spec
-    Inv-loop
-    μ-loop
-    loop-holds
-    (λ c. search needs)
-    (λ c. search needs)
-    (λ c. search needs)
-    (λ c. search needs)
-    loop-again
-    returns)
+    tie.close (tie.spec Inv-loop μ-loop loop-holds (λ c. search needs) (λ c. search needs) (λ c. search needs)
+    (λ c. search needs) loop-again returns)

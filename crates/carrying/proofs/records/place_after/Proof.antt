@@ -1,12 +1,8 @@
 -- `records::place_after` meets its contract: one more, or the same.
-use mathlib.Core.Path.{sym}
-use borrow.Author.Needs.{needs}
+use Rattle.base.proofs.Prelude.{sym, needs}
 use Rattle.base.proofs.ChoiceLaws.{pick-true}
 use Rattle.carrying.proofs.records.place_after.Statement.{statement}
 use Rattle.carrying.proofs.records.place_after.Tie as tie
-
-add-result : tie.Need-add-result
-add-result c = search needs
 
 returns : tie.Need-returns
 returns c = sym (pick-true _ _ _ (c .if1 .taken))
@@ -15,4 +11,5 @@ returns-2 : tie.Need-returns-2
 returns-2 c = search needs
 
 pub place-after-spec : {M : Type 1} → statement M
-place-after-spec = tie.close (tie.spec add-result returns returns-2)
+place-after-spec =
+    tie.close (tie.spec (λ c. search needs) returns returns-2)

@@ -1,23 +1,22 @@
 -- `records::raised` meets its contract: the higher of the two ranks (`KeyLaws`).
-use borrow.Author.Needs.{needs}
+use Rattle.base.proofs.Prelude.{needs}
 use Rattle.carrying.proofs.KeyLaws.{rank-stays, rank-above, rank-raised}
 use Rattle.carrying.proofs.records.raised.Statement.{statement}
 use Rattle.carrying.proofs.records.raised.Tie as tie
 
-kind-requires : tie.Need-kind-requires
-kind-requires c κs = search needs
-
 returns : tie.Need-returns
 returns c = rank-stays _ _ _ (c .before .kind .ensures) (c .if1 .taken)
 
-rank-requires : tie.Need-rank-requires
-rank-requires c κs = search needs
-
 returns-2 : tie.Need-returns-2
-returns-2 c = rank-above _ _ _ (c .before .before .before .kind .ensures) _ (c .before .before .if1 .left) (c .before .rank .ensures) (c .if2 .taken)
+returns-2 c =
+    let after-kind : tie.After-kind = search needs in let else1 : tie.Else1 = search needs in
+    rank-above _ _ _ (after-kind .kind .ensures) _ (else1 .if1 .left) (c .before .rank .ensures) (c .if2 .taken)
 
 returns-3 : tie.Need-returns-3
-returns-3 c = rank-raised _ _ _ (c .before .before .before .kind .ensures) _ (c .before .before .if1 .left) (c .before .rank .ensures) (c .if2 .left)
+returns-3 c =
+    let after-kind : tie.After-kind = search needs in let else1 : tie.Else1 = search needs in
+    rank-raised _ _ _ (after-kind .kind .ensures) _ (else1 .if1 .left) (c .before .rank .ensures) (c .if2 .left)
 
 pub raised-spec : {M : Type 1} → statement M
-raised-spec = tie.close (tie.spec kind-requires returns rank-requires returns-2 returns-3)
+raised-spec =
+    tie.close (tie.spec (λ c κs. search needs) returns (λ c κs. search needs) returns-2 returns-3)

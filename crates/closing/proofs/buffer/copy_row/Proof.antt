@@ -1,15 +1,9 @@
 -- `copy_row` meets its contract: after c turns the first c words are copied.
-use Prim.Native.Nat.{ℕ, _+_, _-_, _≤_}
-use mathlib.Core.Path.{_≡_, refl}
-use native.Mathlib.Omega.{arith}
-use lib.ListN.{length, length-set}
-use denote.Ref.{now}
-use Rattle.base.specs.Words.{at}
+use Rattle.base.proofs.Prelude.{ℕ, _+_, _-_, _≤_, _≡_, refl, arith, length, length-set, now, needs, at}
 use Rattle.closing.specs.Work.{fillFrom}
 use Rattle.closing.proofs.TableLaws.{fillFrom-none, fillFrom-turn, fillFrom-end}
 use Rattle.closing.proofs.buffer.copy_row.Statement.{statement}
 use Rattle.closing.proofs.buffer.copy_row.Tie as tie
-use borrow.Author.Needs.{needs}
 
 abbrev Inv-loop : tie.InvT-loop
 Inv-loop table from count grants₀ to c₀ grants c =
@@ -22,40 +16,27 @@ loop-holds : tie.Need-loop-holds Inv-loop μ-loop
 loop-holds c = (search needs, refl, fillFrom-none _ _ _)
 
 cast-grants : tie.Need-cast-grants Inv-loop μ-loop
-cast-grants c = omega (arith, c .before .before .before .pre .2 (c .before .before .loop .c) (c .before .loop-test .taken))
+cast-grants c =
+    let start : tie.Start Inv-loop μ-loop = search needs in
+    let at-loop : tie.At-loop Inv-loop μ-loop = search needs in
+    omega (arith, start .pre .2 (at-loop .loop .c) (c .before .loop-test .taken))
 
 loop-again : tie.Need-loop-again Inv-loop μ-loop
 loop-again c =
-    let a = c .before .before .before .args in (
+    let at-loop : tie.At-loop Inv-loop μ-loop = search needs in
+    let start : tie.Start Inv-loop μ-loop = search needs in let a = start .args in (
       search needs,
-      simp length-set (c .before .before .loop .inv .1),
-      fillFrom-turn (a .to) (λ (k : ℕ). at (now (a .table)) (a .from + k)) (now (a .grants)) (c .before .before .loop .c) (c .before .before .loop .inv .2) refl,
+      simp length-set (at-loop .loop .inv .1),
+      fillFrom-turn (a .to) (λ (k : ℕ). at (now (a .table)) (a .from + k)) (now (a .grants)) (at-loop .loop .c) (at-loop .loop .inv .2) refl,
     )
-
-same-length : tie.Need-same-length Inv-loop μ-loop
-same-length c = c .before .loop .inv .1
 
 returns : tie.Need-returns Inv-loop μ-loop
 returns c =
-    let a = c .before .before .args in
+    let start : tie.Start Inv-loop μ-loop = search needs in let a = start .args in
     fillFrom-end (a .to) (λ (k : ℕ). at (now (a .table)) (a .from + k)) (now (a .grants)) (a .count) (c .before .loop .c) (c .before .loop .inv .2) (c .before .loop .inv .0) (omega arith)
 
 pub copy-row-spec : {M : Type 1} → statement M
 copy-row-spec =
-    tie.close
-    (tie.spec
-    Inv-loop
-    μ-loop
-    loop-holds
-    (λ c. search needs)
-    (λ c. search needs)
-    (λ c. search needs)
-    cast-grants
-    (λ c. search needs)
-    (λ c. search needs)
-    (λ c. search needs)
-    (λ c. search needs)
-    (λ c. search needs)
-    loop-again
-    same-length
-    returns)
+    tie.close (tie.spec Inv-loop μ-loop loop-holds (λ c. search needs) (λ c. search needs) (λ c. search needs)
+    cast-grants (λ c. search needs) (λ c. search needs) (λ c. search needs) (λ c. search needs) (λ c. search needs)
+    loop-again (λ c. c .before .loop .inv .1) returns)

@@ -1,53 +1,44 @@
 -- `share_out_pending` meets its contract: pools, claims and weights are the state's, and the share-outs are those of the closing.
-use Prim.Native.Nat.{_+_, _*_, _≤_}
-use native.Mathlib.Omega.{arith}
-use denote.Ref.{now}
+use Rattle.base.proofs.Prelude.{_≤_, arith, now, needs}
 use Rattle.state.proofs.OrderlyLaws.{refusal-none}
 use Rattle.closing.proofs.TableLaws.{length-zeros}
 use Rattle.closing.proofs.SharingLaws.{pending-shared}
-use borrow.Author.Needs.{needs}
 use Rattle.closing.proofs.sharing.share_out_pending.Statement.{statement}
 use Rattle.closing.proofs.sharing.share_out_pending.Tie as tie
 
 read-row-requires : tie.Need-read-row-requires
 read-row-requires c κs =
-    let o = refusal-none _ (c .before .before .before .before .before .pre .0 .fit) in
-    let few : c .before .before .intertie-count .result ≤ 48 = omega (arith, c .before .before .intertie-count .ensures, o .1 .interties-most) in
+    let start : tie.Start = search needs in let after-intertie-count : tie.After-intertie-count = search needs in
+    let o = refusal-none _ (start .pre .0 .fit) in
+    let few : after-intertie-count .intertie-count .result ≤ 48 = omega (arith, after-intertie-count .intertie-count .ensures, o .1 .interties-most) in
     (o .0, omega arith, few, omega (arith, length-zeros 48))
 
 read-pairs-requires : tie.Need-read-pairs-requires
 read-pairs-requires c κs =
-    let o = refusal-none _ (c .before .before .before .before .before .before .before .before .pre .0 .fit) in
-    let few : c .before .before .before .before .before .intertie-count .result ≤ 48 = omega (arith, c .before .before .before .before .before .intertie-count .ensures, o .1 .interties-most) in
-    let low : c .before .before .before .before .holder-count .result ≤ 32 = omega (arith, c .before .before .before .before .holder-count .ensures, o .1 .holders-most) in
+    let start : tie.Start = search needs in let after-intertie-count : tie.After-intertie-count = search needs in
+    let after-holder-count : tie.After-holder-count = search needs in
+    let o = refusal-none _ (start .pre .0 .fit) in
+    let few : after-intertie-count .intertie-count .result ≤ 48 = omega (arith, after-intertie-count .intertie-count .ensures, o .1 .interties-most) in
+    let low : after-holder-count .holder-count .result ≤ 32 = omega (arith, after-holder-count .holder-count .ensures, o .1 .holders-most) in
     (o .0, omega arith, low, few, omega (arith, length-zeros 1536))
 
 returns : tie.Need-returns
 returns c =
-    let a = c .before .before .before .before .before .before .before .before .before .before .before .before .before .before .before .before .before .before .before .before .args in
-    let p = c .before .before .before .before .before .before .before .before .before .before .before .before .before .before .before .before .before .before .before .before .pre in
+    let after-intertie-count : tie.After-intertie-count = search needs in
+    let after-holder-count : tie.After-holder-count = search needs in
+    let after-read-row : tie.After-read-row = search needs in
+    let after-read-pairs : tie.After-read-pairs = search needs in let after-weigh : tie.After-weigh = search needs in
+    let after-share-out-each : tie.After-share-out-each = search needs in
+    let start : tie.Start = search needs in let a = start .args in
+    let p = start .pre in
     let o = refusal-none _ (p .0 .fit) in
-    pending-shared (now (a .state)) (o .1) (p .0 .stage-most) _ _ _ _ _ (now (a .table)) _ _ (c .before .before .before .before .before .before .before .before .before .before .before .before .before .before .before .before .before .intertie-count .ensures) (c .before .before .before .before .before .before .before .before .before .before .before .before .before .before .before .before .holder-count .ensures)
-    (c .before .before .before .before .before .before .before .before .before .before .before .before .before .before .read-row .ensures) (c .before .before .before .before .before .before .before .before .before .before .before .read-pairs .ensures) (omega (arith, c .before .before .before .before .before .before .before .before .before .before .before .read-pairs .kept .1 .1 .1 .1 .0, length-zeros 1536)) (c .before .before .before .before .before .before .before .before .weigh .ensures) (p .1)
-    (c .before .before .share-out-each .ensures .0) (c .before .before .share-out-each .ensures .1)
+    pending-shared (now (a .state)) (o .1) (p .0 .stage-most) _ _ _ _ _ (now (a .table)) _ _ (after-intertie-count .intertie-count .ensures) (after-holder-count .holder-count .ensures)
+    (after-read-row .read-row .ensures) (after-read-pairs .read-pairs .ensures) (omega (arith, after-read-pairs .read-pairs .kept .1 .1 .1 .1 .0, length-zeros 1536)) (after-weigh .weigh .ensures) (p .1)
+    (after-share-out-each .share-out-each .ensures .0) (after-share-out-each .share-out-each .ensures .1)
 
 pub share-out-pending-spec : {M : Type 1} → statement M
 share-out-pending-spec =
-    tie.close
-    (tie.spec
-    (λ c κs. search needs)
-    (λ c κs. search needs)
-    (λ c. search needs)
-    (λ c. search needs)
-    read-row-requires
-    (λ c. search needs)
-    (λ c. search needs)
-    read-pairs-requires
-    (λ c. search needs)
-    (λ c κs. search needs)
-    (λ c. search needs)
-    (λ c. search needs)
-    (λ c. search needs)
-    (λ c κs. search needs)
-    (λ c. search needs)
-    returns)
+    tie.close (tie.spec (λ c κs. search needs) (λ c κs. search needs) (λ c. search needs) (λ c. search needs)
+    read-row-requires (λ c. search needs) (λ c. search needs) read-pairs-requires (λ c. search needs)
+    (λ c κs. search needs) (λ c. search needs) (λ c. search needs) (λ c. search needs) (λ c κs. search needs)
+    (λ c. search needs) returns)

@@ -1,17 +1,10 @@
 -- `read_row` meets its contract: after c turns the first c words are read.
-use Prim.Native.Nat.{ℕ, _+_, _-_, _*_, _≤_}
-use mathlib.Core.Path.{_≡_, refl}
-use mathlib.Core.List.{List}
-use native.Mathlib.Omega.{arith}
-use lib.ListN.{length, length-set}
-use denote.Ref.{now}
-use Rattle.base.specs.Words.{at}
+use Rattle.base.proofs.Prelude.{ℕ, _+_, _-_, _*_, _≤_, _≡_, refl, List, arith, length, length-set, now, needs, at}
 use Rattle.state.specs.Layout.{place}
 use Rattle.closing.specs.Work.{fillFrom}
 use Rattle.closing.proofs.TableLaws.{fillFrom-none, fillFrom-turn, fillFrom-end}
 use Rattle.closing.proofs.tables.read_row.Statement.{statement}
 use Rattle.closing.proofs.tables.read_row.Tie as tie
-use borrow.Author.Needs.{needs}
 
 -- a word of the row
 abbrev word : List ℕ → ℕ → ℕ → ℕ
@@ -28,42 +21,28 @@ loop-holds : tie.Need-loop-holds Inv-loop μ-loop
 loop-holds c = (search needs, refl, fillFrom-none _ _ _)
 
 cast-table : tie.Need-cast-table Inv-loop μ-loop
-cast-table c = omega (arith, c .shared-slice-known .given (48 * c .before .before .before .args .row + c .before .before .loop .column))
+cast-table c =
+    let start : tie.Start Inv-loop μ-loop = search needs in
+    let at-loop : tie.At-loop Inv-loop μ-loop = search needs in
+    omega (arith, c .shared-slice-known .given (48 * start .args .row + at-loop .loop .column))
 
 loop-again : tie.Need-loop-again Inv-loop μ-loop
 loop-again c =
-    let a = c .before .before .before .args in
-    let l = c .before .before .loop in (
+    let at-loop : tie.At-loop Inv-loop μ-loop = search needs in
+    let start : tie.Start Inv-loop μ-loop = search needs in let a = start .args in
+    let l = at-loop .loop in (
       search needs,
       simp length-set (l .inv .1),
       fillFrom-turn (a .to) (word (now (a .state)) (a .row)) (now (a .table)) (l .column) (l .inv .2) refl,
     )
 
-same-length : tie.Need-same-length Inv-loop μ-loop
-same-length c = c .before .loop .inv .1
-
 returns : tie.Need-returns Inv-loop μ-loop
 returns c =
-    let a = c .before .before .args in
+    let start : tie.Start Inv-loop μ-loop = search needs in let a = start .args in
     fillFrom-end (a .to) (word (now (a .state)) (a .row)) (now (a .table)) (a .count) (c .before .loop .column) (c .before .loop .inv .2) (c .before .loop .inv .0) (omega arith)
 
 pub read-row-spec : {M : Type 1} → statement M
 read-row-spec =
-    tie.close
-    (tie.spec
-    Inv-loop
-    μ-loop
-    (λ c. search needs)
-    loop-holds
-    (λ c. search needs)
-    (λ c. search needs)
-    (λ c. search needs)
-    cast-table
-    (λ c. search needs)
-    (λ c. search needs)
-    (λ c. search needs)
-    (λ c. search needs)
-    (λ c. search needs)
-    loop-again
-    same-length
-    returns)
+    tie.close (tie.spec Inv-loop μ-loop (λ c. search needs) loop-holds (λ c. search needs) (λ c. search needs)
+    (λ c. search needs) cast-table (λ c. search needs) (λ c. search needs) (λ c. search needs) (λ c. search needs)
+    (λ c. search needs) loop-again (λ c. c .before .loop .inv .1) returns)

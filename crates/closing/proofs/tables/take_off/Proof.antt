@@ -1,16 +1,9 @@
 -- `take_off` meets its contract: after c turns the first c numbers are lowered.
-use Prim.Native.Nat.{ℕ, _+_, _-_, _≤_}
-use mathlib.Core.Path.{_≡_, refl, sym, ap}
-use mathlib.Core.List.{List}
-use native.Mathlib.Omega.{arith}
-use lib.ListN.{length, length-set}
-use denote.Ref.{now}
-use Rattle.base.specs.Words.{at, fill}
+use Rattle.base.proofs.Prelude.{ℕ, _+_, _-_, _≤_, _≡_, refl, sym, ap, List, arith, length, length-set, now, needs, at, fill}
 use Rattle.base.proofs.WordLaws.{fill-zero}
 use Rattle.state.proofs.BaseMore.{fill-place, fill-turn, fill-end}
 use Rattle.closing.proofs.tables.take_off.Statement.{statement}
 use Rattle.closing.proofs.tables.take_off.Tie as tie
-use borrow.Author.Needs.{needs}
 
 -- a number of the row, lowered
 abbrev word : List ℕ → ℕ → List ℕ → ℕ → ℕ
@@ -28,48 +21,34 @@ loop-holds c = (search needs, refl, sym (fill-zero _ _))
 
 sub-row : tie.Need-sub-row Inv-loop μ-loop
 sub-row c =
-    let s = c .before .before .before .before in
-    let l = c .before .before .before .loop in
+    let start : tie.Start Inv-loop μ-loop = search needs in
+    let at-loop : tie.At-loop Inv-loop μ-loop = search needs in
+    let in-loop : tie.In-loop Inv-loop μ-loop = search needs in
+    let l = at-loop .loop in
     omega (
       arith,
-      s .pre .2 (l .c) (c .before .before .loop-test .taken),
-      fill-place (l .c) (word (now (s .args .table)) (s .args .from) (now (s .args .row))) (now (s .args .row)) (l .inv .2),
+      start .pre .2 (l .c) (in-loop .loop-test .taken),
+      fill-place (l .c) (word (now (start .args .table)) (start .args .from) (now (start .args .row))) (now (start .args .row)) (l .inv .2),
     )
 
 loop-again : tie.Need-loop-again Inv-loop μ-loop
 loop-again c =
-    let a = c .before .before .before .before .args in
-    let l = c .before .before .before .loop in
+    let at-loop : tie.At-loop Inv-loop μ-loop = search needs in
+    let start : tie.Start Inv-loop μ-loop = search needs in let a = start .args in
+    let l = at-loop .loop in
     let f = word (now (a .table)) (a .from) (now (a .row)) in (
       search needs,
       simp length-set (l .inv .1),
       fill-turn (l .c) f (now (a .row)) (l .inv .2) (ap (λ x. x - at (now (a .table)) (a .from + l .c)) (fill-place (l .c) f (now (a .row)) (l .inv .2))),
     )
 
-same-length : tie.Need-same-length Inv-loop μ-loop
-same-length c = c .before .loop .inv .1
-
 returns : tie.Need-returns Inv-loop μ-loop
 returns c =
-    let a = c .before .before .args in
+    let start : tie.Start Inv-loop μ-loop = search needs in let a = start .args in
     fill-end (a .count) (c .before .loop .c) (word (now (a .table)) (a .from) (now (a .row))) (now (a .row)) (c .before .loop .inv .2) (c .before .loop .inv .0) (omega arith)
 
 pub take-off-spec : {M : Type 1} → statement M
 take-off-spec =
-    tie.close
-    (tie.spec
-    Inv-loop
-    μ-loop
-    loop-holds
-    (λ c. search needs)
-    (λ c. search needs)
-    (λ c. search needs)
-    (λ c. search needs)
-    (λ c. search needs)
-    sub-row
-    (λ c. search needs)
-    (λ c. search needs)
-    (λ c. search needs)
-    loop-again
-    same-length
-    returns)
+    tie.close (tie.spec Inv-loop μ-loop loop-holds (λ c. search needs) (λ c. search needs) (λ c. search needs)
+    (λ c. search needs) (λ c. search needs) sub-row (λ c. search needs) (λ c. search needs) (λ c. search needs)
+    loop-again (λ c. c .before .loop .inv .1) returns)

@@ -1,16 +1,8 @@
 -- `load_if_seller` meets its contract: the bit is 0 or 1.
-use mathlib.Core.Path.{refl}
-use native.Mathlib.Omega.{arith}
+use Rattle.base.proofs.Prelude.{refl, arith, needs}
 use Rattle.closing.proofs.WeightLaws.{bit-load}
-use borrow.Author.Needs.{needs}
 use Rattle.closing.proofs.weights.load_if_seller.Statement.{statement}
 use Rattle.closing.proofs.weights.load_if_seller.Tie as tie
-
-shr-result : tie.Need-shr-result
-shr-result c = search needs
-
-cast-result : tie.Need-cast-result
-cast-result c = search needs
 
 mul-result : tie.Need-mul-result
 mul-result c = omega (arith, bit-load (c .args .sellers) (c .args .holder) (c .args .load))
@@ -19,4 +11,5 @@ returns : tie.Need-returns
 returns c = (refl, bit-load (c .args .sellers) (c .args .holder) (c .args .load))
 
 pub load-if-seller-spec : {M : Type 1} → statement M
-load-if-seller-spec = tie.close (tie.spec shr-result cast-result mul-result returns)
+load-if-seller-spec =
+    tie.close (tie.spec (λ c. search needs) (λ c. search needs) mul-result returns)

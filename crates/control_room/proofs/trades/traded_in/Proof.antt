@@ -1,7 +1,6 @@
 -- `traded_in` meets its contract: the test is the definition's.
-use mathlib.Core.Path.{sym}
+use Rattle.base.proofs.Prelude.{sym, needs}
 use Rattle.base.proofs.ChoiceLaws.{pick-true, pick-false}
-use borrow.Author.Needs.{needs}
 use Rattle.control_room.proofs.trades.traded_in.Statement.{statement}
 use Rattle.control_room.proofs.trades.traded_in.Tie as tie
 
@@ -13,19 +12,6 @@ returns-2 c = sym (pick-false _ _ _ (c .if1 .left))
 
 pub traded-in-spec : {M : Type 1} → statement M
 traded-in-spec =
-    tie.close
-    (tie.spec
-    (λ c. search needs)
-    (λ c. search needs)
-    (λ c. search needs)
-    (λ c. search needs)
-    (λ c. search needs)
-    (λ c. search needs)
-    (λ c. search needs)
-    (λ c. search needs)
-    (λ c. search needs)
-    (λ c. search needs)
-    (λ c. search needs)
-    (λ c. search needs)
-    returns
-    returns-2)
+    tie.close (tie.spec (λ c. search needs) (λ c. search needs) (λ c. search needs) (λ c. search needs)
+    (λ c. search needs) (λ c. search needs) (λ c. search needs) (λ c. search needs) (λ c. search needs)
+    (λ c. search needs) (λ c. search needs) (λ c. search needs) returns returns-2)

@@ -1,7 +1,7 @@
 -- `kind_of` meets its contract, name by name.
+use Rattle.base.proofs.Prelude.{needs}
 use Rattle.journal.specs.Calls.{kindOf}
 use Rattle.journal.proofs.CallLaws.{choices}
-use borrow.Author.Needs.{needs}
 use Rattle.journal.proofs.calls.kind_of.Statement.{statement}
 use Rattle.journal.proofs.calls.kind_of.Tie as tie
 
@@ -35,24 +35,7 @@ returns-7 c = search choices depth 8
 
 pub kind-of-spec : {M : Type 1} → statement M
 kind-of-spec =
-    tie.close
-    (tie.spec
-    (λ c. search needs)
-    (λ c κs. search needs)
-    returns
-    (λ c. search needs)
-    (λ c κs. search needs)
-    returns-2
-    (λ c. search needs)
-    (λ c κs. search needs)
-    returns-3
-    (λ c. search needs)
-    (λ c κs. search needs)
-    returns-4
-    (λ c. search needs)
-    (λ c κs. search needs)
-    returns-5
-    (λ c. search needs)
-    (λ c κs. search needs)
-    returns-6
-    returns-7)
+    tie.close (tie.spec (λ c. search needs) (λ c κs. search needs) returns (λ c. search needs) (λ c κs. search needs)
+    returns-2 (λ c. search needs) (λ c κs. search needs) returns-3 (λ c. search needs) (λ c κs. search needs)
+    returns-4 (λ c. search needs) (λ c κs. search needs) returns-5 (λ c. search needs) (λ c κs. search needs)
+    returns-6 returns-7)

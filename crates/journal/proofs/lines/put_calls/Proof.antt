@@ -1,9 +1,5 @@
 -- `put_calls` meets its contract: the words of the lines that are left are still to be written.
-use Prim.Native.Nat.{_+_, _-_, _≤_}
-use mathlib.Core.Path.{_≡_, refl}
-use native.Mathlib.Omega.{arith}
-use lib.ListN.{length, drop}
-use denote.Ref.{now}
+use Rattle.base.proofs.Prelude.{_+_, _-_, _≤_, _≡_, refl, arith, length, drop, now, needs}
 use Rattle.text.specs.Written.{written}
 use Rattle.journal.specs.Journals.{linesOf, callWords}
 use Rattle.journal.proofs.JournalLaws.{words-fit, put-ends, put-turn}
@@ -12,7 +8,6 @@ use Rattle.journal.proofs.lines.put_calls.Tie as tie
 use Rattle.journal.proofs.calls.read_line.Reads as read-line-reads
 use Rattle.journal.proofs.lines.line_end.Reads as line-end-reads
 use Rattle.journal.proofs.lines.put_line.Reads as put-line-reads
-use borrow.Author.Needs.{needs}
 
 abbrev Inv-loop : tie.InvT-loop
 Inv-loop text calls₀ at₀ place₀ calls at place =
@@ -29,39 +24,36 @@ loop-holds c = (search needs, refl, search needs, refl)
 
 put-line-requires : tie.Need-put-line-requires Inv-loop μ-loop
 put-line-requires c κs =
-    let a = c .before .before .before .before .before .before .before .args in
-    let t = c .before .before .before .before .loop in
-    let fit = words-fit (now (a .text)) (t .at) (t .place) (callWords (linesOf (now (a .text)))) (now (a .calls)) (t .calls) (t .inv .2) (t .inv .3) _ (t .inv .0) (c .before .before .before .line-end .ensures .0) _ (c .before .read-line .ensures) in
+    let at-loop : tie.At-loop Inv-loop μ-loop = search needs in
+    let after-line-end : tie.After-line-end Inv-loop μ-loop = search needs in
+    let start : tie.Start Inv-loop μ-loop = search needs in let a = start .args in
+    let t = at-loop .loop in
+    let fit = words-fit (now (a .text)) (t .at) (t .place) (callWords (linesOf (now (a .text)))) (now (a .calls)) (t .calls) (t .inv .2) (t .inv .3) _ (t .inv .0) (after-line-end .line-end .ensures .0) _ (c .before .read-line .ensures) in
     omega (arith, fit, t .inv .1)
 
 returns : tie.Need-returns Inv-loop μ-loop
 returns c =
-    let a = c .before .before .before .before .before .before .before .before .before .before .before .args in
-    let t = c .before .before .before .before .before .before .before .before .loop in
-    put-ends (now (a .text)) (t .at) (t .place) (callWords (linesOf (now (a .text)))) (now (a .calls)) (t .calls) (t .inv .2) (t .inv .3) _ (t .inv .0) (c .before .before .before .before .before .before .before .line-end .ensures .0) _ (c .before .before .before .before .before .read-line .ensures) _ _ (c .before .before .before .put-line .ensures .0) (c .before .before .before .put-line .ensures .1) (c .if1 .taken)
+    let at-loop : tie.At-loop Inv-loop μ-loop = search needs in
+    let after-line-end : tie.After-line-end Inv-loop μ-loop = search needs in
+    let after-read-line : tie.After-read-line Inv-loop μ-loop = search needs in
+    let after-put-line : tie.After-put-line Inv-loop μ-loop = search needs in
+    let start : tie.Start Inv-loop μ-loop = search needs in let a = start .args in
+    let t = at-loop .loop in
+    put-ends (now (a .text)) (t .at) (t .place) (callWords (linesOf (now (a .text)))) (now (a .calls)) (t .calls) (t .inv .2) (t .inv .3) _ (t .inv .0) (after-line-end .line-end .ensures .0) _ (after-read-line .read-line .ensures) _ _ (after-put-line .put-line .ensures .0) (after-put-line .put-line .ensures .1) (c .if1 .taken)
 
 loop-again : tie.Need-loop-again Inv-loop μ-loop
 loop-again c =
-    let a = c .before .before .before .before .before .before .before .before .before .before .before .args in
-    let t = c .before .before .before .before .before .before .before .before .loop in
-    let turn = put-turn (now (a .text)) (t .at) (t .place) (callWords (linesOf (now (a .text)))) (now (a .calls)) (t .calls) (t .inv .2) (t .inv .3) _ (t .inv .0) (c .before .before .before .before .before .before .before .line-end .ensures .0) _ (c .before .before .before .before .before .read-line .ensures) _ _ (c .before .before .before .put-line .ensures .0) (c .before .before .before .put-line .ensures .1) (c .if1 .left) in
+    let at-loop : tie.At-loop Inv-loop μ-loop = search needs in
+    let after-line-end : tie.After-line-end Inv-loop μ-loop = search needs in
+    let after-read-line : tie.After-read-line Inv-loop μ-loop = search needs in
+    let after-put-line : tie.After-put-line Inv-loop μ-loop = search needs in
+    let start : tie.Start Inv-loop μ-loop = search needs in let a = start .args in
+    let t = at-loop .loop in
+    let turn = put-turn (now (a .text)) (t .at) (t .place) (callWords (linesOf (now (a .text)))) (now (a .calls)) (t .calls) (t .inv .2) (t .inv .3) _ (t .inv .0) (after-line-end .line-end .ensures .0) _ (after-read-line .read-line .ensures) _ _ (after-put-line .put-line .ensures .0) (after-put-line .put-line .ensures .1) (c .if1 .left) in
     (search needs, search needs, turn .0, turn .1)
 
 pub put-calls-spec : {M : Type 1} → statement M
 put-calls-spec =
-    tie.close
-    (tie.spec
-    Inv-loop
-    μ-loop
-    loop-holds
-    (λ c κs. search needs)
-    (λ c. search needs)
-    (λ c. search needs)
-    (λ c. search needs)
-    (λ c κs. search needs)
-    put-line-requires
-    (λ c. search needs)
-    returns
-    (λ c. search needs)
-    (λ c. search needs)
-    loop-again)
+    tie.close (tie.spec Inv-loop μ-loop loop-holds (λ c κs. search needs) (λ c. search needs) (λ c. search needs)
+    (λ c. search needs) (λ c κs. search needs) put-line-requires (λ c. search needs) returns (λ c. search needs)
+    (λ c. search needs) loop-again)

@@ -1,14 +1,9 @@
 -- `leading` meets its contract: the bytes read so far are of the class.
-use Prim.Native.Nat.{_+_, _-_, _≤_}
-use mathlib.Core.Path.{_≡_, sym, _∙_}
-use native.Mathlib.Omega.{arith}
-use lib.ListN.{length, drop}
-use denote.Ref.{now}
+use Rattle.base.proofs.Prelude.{_+_, _-_, _≤_, _≡_, sym, _∙_, arith, length, drop, now, needs}
 use Rattle.journal.specs.Workers.{leading}
 use Rattle.journal.proofs.WordLaws.{leading-found, leading-turn, leading-all}
 use Rattle.journal.proofs.words.leading.Statement.{statement}
 use Rattle.journal.proofs.words.leading.Tie as tie
-use borrow.Author.Needs.{needs}
 
 abbrev Inv-loop : tie.InvT-loop
 Inv-loop line k i₀ i = (i ≤ length line) × (leading k line ≡ i + leading k (drop i line))
@@ -21,33 +16,25 @@ loop-holds c = (search needs, omega arith)
 
 returns : tie.Need-returns Inv-loop μ-loop
 returns c =
-    let a = c .before .before .before .before .before .before .args in
-    let t = c .before .before .before .before .loop in
+    let at-loop : tie.At-loop Inv-loop μ-loop = search needs in
+    let start : tie.Start Inv-loop μ-loop = search needs in let a = start .args in
+    let t = at-loop .loop in
     leading-found (a .k) (now (a .line)) (t .i) (t .inv .1) (search needs) (λ e. c .if1 .taken (c .before .class .ensures ∙ e))
 
 loop-again : tie.Need-loop-again Inv-loop μ-loop
 loop-again c =
-    let a = c .before .before .before .before .before .before .args in
-    let t = c .before .before .before .before .loop in
+    let at-loop : tie.At-loop Inv-loop μ-loop = search needs in
+    let start : tie.Start Inv-loop μ-loop = search needs in let a = start .args in
+    let t = at-loop .loop in
     (search needs, leading-turn (a .k) (now (a .line)) (t .i) (t .inv .1) (search needs) (sym (c .before .class .ensures) ∙ c .if1 .left))
 
 returns-2 : tie.Need-returns-2 Inv-loop μ-loop
 returns-2 c =
-    let a = c .before .before .before .args in
+    let start : tie.Start Inv-loop μ-loop = search needs in let a = start .args in
     let t = c .before .loop in
     leading-all (a .k) (now (a .line)) (t .i) (t .inv .1) (search needs)
 
 pub leading-spec : {M : Type 1} → statement M
 leading-spec =
-    tie.close
-    (tie.spec
-    Inv-loop
-    μ-loop
-    loop-holds
-    (λ c. search needs)
-    (λ c κs. search needs)
-    returns
-    (λ c. search needs)
-    (λ c. search needs)
-    loop-again
-    returns-2)
+    tie.close (tie.spec Inv-loop μ-loop loop-holds (λ c. search needs) (λ c κs. search needs) returns
+    (λ c. search needs) (λ c. search needs) loop-again returns-2)

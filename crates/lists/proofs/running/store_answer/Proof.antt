@@ -1,9 +1,5 @@
 -- `store_answer` meets its contract: the three words are stored.
-use Prim.Native.Nat.{_*_}
-use native.Mathlib.Omega.{arith}
-use lib.ListN.{length-set}
-use denote.Ref.{now}
-use borrow.Author.Needs.{needs}
+use Rattle.base.proofs.Prelude.{_*_, arith, length-set, now, needs}
 use Rattle.lists.proofs.running.store_answer.Statement.{statement}
 use Rattle.lists.proofs.running.store_answer.Tie as tie
 
@@ -14,17 +10,6 @@ slice-write-answers-2 c =
 
 pub store-answer-spec : {M : Type 1} → statement M
 store-answer-spec =
-    tie.close
-    (tie.spec
-    (λ c. search needs)
-    (λ c. search needs)
-    (λ c. search needs)
-    (λ c. search needs)
-    (λ c. search needs)
-    (λ c. search needs)
-    slice-write-answers-2
-    (λ c. search needs)
-    (λ c. search needs)
-    (λ c. search needs)
-    (λ c. search needs)
-    (λ c. search needs))
+    tie.close (tie.spec (λ c. search needs) (λ c. search needs) (λ c. search needs) (λ c. search needs)
+    (λ c. search needs) (λ c. search needs) slice-write-answers-2 (λ c. search needs) (λ c. search needs)
+    (λ c. search needs) (λ c. search needs) (λ c. search needs))

@@ -1,13 +1,6 @@
 -- `fill_totals` meets its contract: after h turns the first h holders have theirs.
-use Prim.Native.Nat.{ℕ, _+_, _-_}
-use mathlib.Core.Path.{refl}
-use mathlib.Core.List.{List}
-use native.Mathlib.Omega.{arith}
-use lib.ListN.{length}
-use denote.Ref.{now}
-use Rattle.base.specs.Words.{at}
+use Rattle.base.proofs.Prelude.{ℕ, _+_, _-_, refl, List, arith, length, now, needs, at}
 use Rattle.steps_2_to_4.proofs.VectorLaws.{Filling, filling-none, filling-next, filling-all}
-use borrow.Author.Needs.{needs}
 use Rattle.opening.proofs.figures.fill_totals.Statement.{statement}
 use Rattle.opening.proofs.figures.fill_totals.Tie as tie
 
@@ -24,35 +17,22 @@ loop-holds : tie.Need-loop-holds Inv-loop μ-loop
 loop-holds c = filling-none _ _
 
 add-totals : tie.Need-add-totals Inv-loop μ-loop
-add-totals c = omega (arith, c .before .before .before .before .pre .2 (c .before .before .before .loop .h) (omega arith))
+add-totals c =
+    let start : tie.Start Inv-loop μ-loop = search needs in
+    let at-loop : tie.At-loop Inv-loop μ-loop = search needs in
+    omega (arith, start .pre .2 (at-loop .loop .h) (omega arith))
 
 loop-again : tie.Need-loop-again Inv-loop μ-loop
 loop-again c =
-    let a = c .before .before .before .before .args in
-    filling-next (both (now (a .held)) (now (a .shares))) _ _ _ _ (c .before .before .before .loop .inv) (omega arith) refl
-
-same-length : tie.Need-same-length Inv-loop μ-loop
-same-length c = c .before .loop .inv .size
+    let at-loop : tie.At-loop Inv-loop μ-loop = search needs in
+    let start : tie.Start Inv-loop μ-loop = search needs in let a = start .args in
+    filling-next (both (now (a .held)) (now (a .shares))) _ _ _ _ (at-loop .loop .inv) (omega arith) refl
 
 returns : tie.Need-returns Inv-loop μ-loop
 returns c = filling-all _ _ _ _ (c .before .loop .inv) (c .loop-test .left)
 
 pub fill-totals-spec : {M : Type 1} → statement M
 fill-totals-spec =
-    tie.close
-    (tie.spec
-    Inv-loop
-    μ-loop
-    loop-holds
-    (λ c. search needs)
-    (λ c. search needs)
-    (λ c. search needs)
-    (λ c. search needs)
-    add-totals
-    (λ c. search needs)
-    (λ c. search needs)
-    (λ c. search needs)
-    (λ c. search needs)
-    loop-again
-    same-length
-    returns)
+    tie.close (tie.spec Inv-loop μ-loop loop-holds (λ c. search needs) (λ c. search needs) (λ c. search needs)
+    (λ c. search needs) add-totals (λ c. search needs) (λ c. search needs) (λ c. search needs) (λ c. search needs)
+    loop-again (λ c. c .before .loop .inv .size) returns)

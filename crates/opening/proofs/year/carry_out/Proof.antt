@@ -1,66 +1,70 @@
 -- `carry_out` meets its contract: each step is handed what the one before left (`OpenLaws`).
-use mathlib.Core.Path.{sym}
-use lib.ListN.{length}
-use denote.Ref.{now}
+use Rattle.base.proofs.Prelude.{sym, now, needs}
 use Rattle.opening.proofs.OpenLaws.{front-size, total-is, pre-ra-size, new-use-size, held-given, year-opened}
-use borrow.Author.Needs.{needs}
 use Rattle.opening.proofs.year.carry_out.Statement.{statement}
 use Rattle.opening.proofs.year.carry_out.Tie as tie
 
 slice-aggregate-steps-5-to-7 : tie.Need-slice-aggregate-steps-5-to-7
 slice-aggregate-steps-5-to-7 c =
-    let a = c .before .before .before .before .before .before .before .args in
-    sym (pre-ra-size (now (a .kw)) (now (a .ties)) (a .interties) (a .holders) (c .before .before .before .before .before .before .before .pre .0) (search needs) _ _ _ _ (c .before .before .reserve .ensures))
+    let after-reserve : tie.After-reserve = search needs in
+    let start : tie.Start = search needs in let a = start .args in
+    sym (pre-ra-size (now (a .kw)) (now (a .ties)) (a .interties) (a .holders) (start .pre .0) (search needs) _ _ _ _ (after-reserve .reserve .ensures))
 
 slice-aggregate-steps-5-to-7-2 : tie.Need-slice-aggregate-steps-5-to-7-2
 slice-aggregate-steps-5-to-7-2 c =
-    let a = c .before .before .before .before .before .before .before .before .args in
-    sym (new-use-size (now (a .kw)) (now (a .ties)) (a .interties) (a .holders) (c .before .before .before .before .before .before .before .before .pre .0) (search needs) _ _ _ _ (c .before .before .before .reserve .ensures))
+    let after-reserve : tie.After-reserve = search needs in
+    let start : tie.Start = search needs in let a = start .args in
+    sym (new-use-size (now (a .kw)) (now (a .ties)) (a .interties) (a .holders) (start .pre .0) (search needs) _ _ _ _ (after-reserve .reserve .ensures))
 
 array-borrow-prefix-held : tie.Need-array-borrow-prefix-held
-array-borrow-prefix-held c = c .before .before .before .before .before .before .before .before .pre .0 .holders-most
+array-borrow-prefix-held c =
+    let start : tie.Start = search needs in
+    start .pre .0 .holders-most
 
 slice-aggregate-steps-5-to-7-3 : tie.Need-slice-aggregate-steps-5-to-7-3
-slice-aggregate-steps-5-to-7-3 c = sym (front-size _ 32 (c .before .before .before .before .before .before .before .before .before .pre .0 .holders-most))
+slice-aggregate-steps-5-to-7-3 c =
+    let start : tie.Start = search needs in
+    sym (front-size _ 32 (start .pre .0 .holders-most))
 
 array-borrow-prefix-shares : tie.Need-array-borrow-prefix-shares
-array-borrow-prefix-shares c = c .before .before .before .before .before .before .before .before .before .pre .0 .holders-most
+array-borrow-prefix-shares c =
+    let start : tie.Start = search needs in
+    start .pre .0 .holders-most
 
 slice-aggregate-steps-5-to-7-4 : tie.Need-slice-aggregate-steps-5-to-7-4
-slice-aggregate-steps-5-to-7-4 c = sym (front-size _ 32 (c .before .before .before .before .before .before .before .before .before .before .pre .0 .holders-most))
+slice-aggregate-steps-5-to-7-4 c =
+    let start : tie.Start = search needs in
+    sym (front-size _ 32 (start .pre .0 .holders-most))
 
 array-borrow-prefix-totals : tie.Need-array-borrow-prefix-totals
-array-borrow-prefix-totals c = c .before .before .before .before .before .before .before .before .before .before .pre .0 .holders-most
+array-borrow-prefix-totals c =
+    let start : tie.Start = search needs in
+    start .pre .0 .holders-most
 
 slice-aggregate-steps-5-to-7-5 : tie.Need-slice-aggregate-steps-5-to-7-5
-slice-aggregate-steps-5-to-7-5 c = sym (front-size _ 32 (c .before .before .before .before .before .before .before .before .before .before .before .pre .0 .holders-most))
+slice-aggregate-steps-5-to-7-5 c =
+    let start : tie.Start = search needs in
+    sym (front-size _ 32 (start .pre .0 .holders-most))
 
 steps-5-to-7-requires : tie.Need-steps-5-to-7-requires
 steps-5-to-7-requires c κs =
-    let a = c .before .before .before .before .before .before .before .before .before .before .before .args in
-    held-given (now (a .kw)) (now (a .ties)) (a .interties) (a .holders) (c .before .before .before .before .before .before .before .before .before .before .before .pre .0) (search needs) _ _ _ _ (c .before .before .before .before .before .before .reserve .ensures)
+    let after-reserve : tie.After-reserve = search needs in
+    let start : tie.Start = search needs in let a = start .args in
+    held-given (now (a .kw)) (now (a .ties)) (a .interties) (a .holders) (start .pre .0) (search needs) _ _ _ _ (after-reserve .reserve .ensures)
 
 returns : tie.Need-returns
 returns c =
-    let a = c .before .before .before .before .before .before .before .before .before .before .before .before .before .before .before .before .before .before .before .before .before .before .before .before .before .args in (
-      total-is (now (a .kw)) (now (a .ties)) (a .interties) (a .holders) (c .before .before .before .before .before .before .before .before .before .before .before .before .before .before .before .before .before .before .before .before .before .before .before .before .before .pre .0) (search needs) _ _ _ _ (c .before .before .before .before .before .before .before .before .before .before .before .before .before .before .before .before .before .before .before .before .reserve .ensures),
-      year-opened (now (a .kw)) (now (a .ties)) (a .interties) (a .holders) (c .before .before .before .before .before .before .before .before .before .before .before .before .before .before .before .before .before .before .before .before .before .before .before .before .before .pre .0) (search needs) _ _ _ _ (c .before .before .before .before .before .before .before .before .before .before .before .before .before .before .before .before .before .before .before .before .reserve .ensures) _ _ _ (c .before .before .before .before .before .before .before .before .before .before .before .before .before .steps-5-to-7 .ensures) _ _ _ (c .before .before .before .before .before .before .before .before .before .before .before .before .before .before .before .before .before .before .before .before .before .before .before .before .before .pre .1) (c .before .before .write-state .ensures),
+    let after-reserve : tie.After-reserve = search needs in
+    let after-steps-5-to-7 : tie.After-steps-5-to-7 = search needs in
+    let after-write-state : tie.After-write-state = search needs in
+    let start : tie.Start = search needs in let a = start .args in (
+      total-is (now (a .kw)) (now (a .ties)) (a .interties) (a .holders) (start .pre .0) (search needs) _ _ _ _ (after-reserve .reserve .ensures),
+      year-opened (now (a .kw)) (now (a .ties)) (a .interties) (a .holders) (start .pre .0) (search needs) _ _ _ _ (after-reserve .reserve .ensures) _ _ _ (after-steps-5-to-7 .steps-5-to-7 .ensures) _ _ _ (start .pre .1) (after-write-state .write-state .ensures),
     )
 
 pub carry-out-spec : {M : Type 1} → statement M
 carry-out-spec =
-    tie.close
-    (tie.spec
-    (λ c κs. search needs)
-    slice-aggregate-steps-5-to-7
-    slice-aggregate-steps-5-to-7-2
-    array-borrow-prefix-held
-    slice-aggregate-steps-5-to-7-3
-    array-borrow-prefix-shares
-    slice-aggregate-steps-5-to-7-4
-    array-borrow-prefix-totals
-    slice-aggregate-steps-5-to-7-5
-    steps-5-to-7-requires
-    (λ c κs. search needs)
-    (λ c. search needs)
-    returns)
+    tie.close (tie.spec (λ c κs. search needs) slice-aggregate-steps-5-to-7 slice-aggregate-steps-5-to-7-2
+    array-borrow-prefix-held slice-aggregate-steps-5-to-7-3 array-borrow-prefix-shares slice-aggregate-steps-5-to-7-4
+    array-borrow-prefix-totals slice-aggregate-steps-5-to-7-5 steps-5-to-7-requires (λ c κs. search needs)
+    (λ c. search needs) returns)

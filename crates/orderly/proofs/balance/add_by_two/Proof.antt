@@ -1,7 +1,5 @@
 -- `orderly::balance::add_by_two` meets its contract. The invariant: the holders passed are added.
-use Prim.Native.Nat.{ℕ, _*_, _≤_, _-_}
-use native.Mathlib.Omega.{arith}
-use borrow.Author.Needs.{needs}
+use Rattle.base.proofs.Prelude.{_-_, _*_, _≤_, arith, needs}
 use Rattle.orderly.specs.Check.{Added}
 use Rattle.orderly.proofs.BalanceLaws.{added-none, added-two, added-same}
 use Rattle.orderly.proofs.balance.add_by_two.Statement.{statement}
@@ -14,21 +12,15 @@ abbrev μ-loop : tie.MeasureT-loop
 μ-loop state sums₀ bits₀ two₀ two-end sums bits two = two-end - two
 
 loop-holds : tie.Need-loop-holds Inv-loop μ-loop
-loop-holds c = (omega arith, added-none _ _ (c .before .before .pre .1))
-
-mul-add-two : tie.Need-mul-add-two Inv-loop μ-loop
-mul-add-two c = omega arith
-
-add-two : tie.Need-add-two Inv-loop μ-loop
-add-two c = omega arith
-
-loop-less : tie.Need-loop-less Inv-loop μ-loop
-loop-less c = omega arith
+loop-holds c =
+    let start : tie.Start Inv-loop μ-loop = search needs in
+    (omega arith, added-none _ _ (start .pre .1))
 
 loop-again : tie.Need-loop-again Inv-loop μ-loop
 loop-again c =
-    let a = c .before .before .before .before .before .before .args in
-    let l = c .before .before .before .loop in
+    let at-loop : tie.At-loop Inv-loop μ-loop = search needs in
+    let start : tie.Start Inv-loop μ-loop = search needs in let a = start .args in
+    let l = at-loop .loop in
     (omega arith, added-two (a .state .now) (l .sums) _ (l .two) (l .bits) (c .add-two .result) (omega arith) (l .inv .1) (c .add-two .ensures .0) (c .add-two .ensures .1))
 
 returns : tie.Need-returns Inv-loop μ-loop
@@ -38,15 +30,5 @@ returns c =
 
 pub add-by-two-spec : {M : Type 1} → statement M
 add-by-two-spec =
-    tie.close
-    (tie.spec
-    Inv-loop
-    μ-loop
-    (λ c κs. search needs)
-    loop-holds
-    mul-add-two
-    (λ c κs. search needs)
-    add-two
-    loop-less
-    loop-again
-    returns)
+    tie.close (tie.spec Inv-loop μ-loop (λ c κs. search needs) loop-holds (λ c. omega arith) (λ c κs. search needs)
+    (λ c. omega arith) (λ c. omega arith) loop-again returns)

@@ -1,11 +1,5 @@
 -- `orderly::balance::add_holder` meets its contract. The invariant: the sums of the interties passed are filled, and the bits of their pairs are together.
-use Prim.Native.Nat.{ℕ, _+_, _%_, _^_, _≤_, _-_}
-use mathlib.Core.Path.{_≡_, refl}
-use native.Mathlib.Omega.{arith}
-use borrow.Author.Needs.{needs}
-use lib.Dec.{ltb}
-use Rattle.base.specs.Sums.{allTo}
-use Rattle.base.specs.Words.{at, fill}
+use Rattle.base.proofs.Prelude.{ℕ, _+_, _-_, _%_, _^_, _≤_, _≡_, refl, arith, ltb, needs, allTo, at, fill}
 use Rattle.orderly.specs.Check.{pairKw, pairFits}
 use Rattle.state.proofs.BaseMore.{tests-end, fill-place, fill-turn, fill-end}
 use Rattle.orderly.proofs.BalanceLaws.{bits-turn}
@@ -25,29 +19,14 @@ loop-holds : tie.Need-loop-holds Inv-loop μ-loop
 unfolding allTo fill
 loop-holds c = (omega arith, refl, refl)
 
-mul-wrapping-add-u32 : tie.Need-mul-wrapping-add-u32 Inv-loop μ-loop
-mul-wrapping-add-u32 c = omega arith
-
-element-copy-out-wrapping-add-u32 : tie.Need-element-copy-out-wrapping-add-u32 Inv-loop μ-loop
-element-copy-out-wrapping-add-u32 c = omega arith
-
-mul-sums : tie.Need-mul-sums Inv-loop μ-loop
-mul-sums c = omega arith
-
-element-write-sums : tie.Need-element-write-sums Inv-loop μ-loop
-element-write-sums c = omega arith
-
-add-intertie : tie.Need-add-intertie Inv-loop μ-loop
-add-intertie c = omega arith
-
-loop-less : tie.Need-loop-less Inv-loop μ-loop
-loop-less c = omega arith
-
 loop-again : tie.Need-loop-again Inv-loop μ-loop
 loop-again c =
-    let l = c .before .before .before .before .before .loop in
-    let kept : at (l .sums) (l .intertie) ≡ at (c .before .before .before .before .before .before .before .before .args .sums .now) (l .intertie) = fill-place _ _ _ (l .inv .2) in
-    (omega arith, bits-turn _ _ (l .bits) (c .before .before .before .pair-bits .result) (l .inv .1) (c .before .before .before .pair-bits .ensures), fill-turn _ _ _ (l .inv .2) (cc (kept, c .before .pair-kw .ensures, c .wrapping-add-u32 .ensures)))
+    let at-loop : tie.At-loop Inv-loop μ-loop = search needs in
+    let start : tie.Start Inv-loop μ-loop = search needs in
+    let after-pair-bits : tie.After-pair-bits Inv-loop μ-loop = search needs in
+    let l = at-loop .loop in
+    let kept : at (l .sums) (l .intertie) ≡ at (start .args .sums .now) (l .intertie) = fill-place _ _ _ (l .inv .2) in
+    (omega arith, bits-turn _ _ (l .bits) (after-pair-bits .pair-bits .result) (l .inv .1) (after-pair-bits .pair-bits .ensures), fill-turn _ _ _ (l .inv .2) (cc (kept, c .before .pair-kw .ensures, c .wrapping-add-u32 .ensures)))
 
 returns : tie.Need-returns Inv-loop μ-loop
 returns c =
@@ -56,20 +35,6 @@ returns c =
 
 pub add-holder-spec : {M : Type 1} → statement M
 add-holder-spec =
-    tie.close
-    (tie.spec
-    Inv-loop
-    μ-loop
-    (λ c κs. search needs)
-    loop-holds
-    (λ c κs. search needs)
-    mul-wrapping-add-u32
-    element-copy-out-wrapping-add-u32
-    (λ c κs. search needs)
-    (λ c κs. search needs)
-    mul-sums
-    element-write-sums
-    add-intertie
-    loop-less
-    loop-again
-    returns)
+    tie.close (tie.spec Inv-loop μ-loop (λ c κs. search needs) loop-holds (λ c κs. search needs) (λ c. omega arith)
+    (λ c. omega arith) (λ c κs. search needs) (λ c κs. search needs) (λ c. omega arith) (λ c. omega arith)
+    (λ c. omega arith) (λ c. omega arith) loop-again returns)

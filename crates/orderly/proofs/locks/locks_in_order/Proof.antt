@@ -1,9 +1,5 @@
 -- `orderly::locks::locks_in_order` meets its contract. The invariant: the locks of the holders passed are tested.
-use Prim.Native.Nat.{ℕ, _≤_, _-_}
-use mathlib.Core.Path.{_≡_, _∙_}
-use native.Mathlib.Omega.{arith}
-use borrow.Author.Needs.{needs}
-use Rattle.base.specs.Sums.{allTo}
+use Rattle.base.proofs.Prelude.{ℕ, _-_, _≤_, _≡_, _∙_, arith, needs, allTo}
 use Rattle.state.specs.Layout.{interties}
 use Rattle.orderly.specs.Check.{pairLockFits}
 use Rattle.state.proofs.BaseMore.{tests-turn, tests-end}
@@ -23,28 +19,17 @@ loop-holds : tie.Need-loop-holds Inv-loop μ-loop
 unfolding allTo
 loop-holds c = search needs
 
-add-holder : tie.Need-add-holder Inv-loop μ-loop
-add-holder c = omega arith
-
-loop-less : tie.Need-loop-less Inv-loop μ-loop
-loop-less c = omega arith
-
 loop-again : tie.Need-loop-again Inv-loop μ-loop
-loop-again c = (omega arith, tests-turn _ _ (c .before .before .loop .inv .1) (c .holder-locks-in-order .ensures))
+loop-again c =
+    let at-loop : tie.At-loop Inv-loop μ-loop = search needs in
+    (omega arith, tests-turn _ _ (at-loop .loop .inv .1) (c .holder-locks-in-order .ensures))
 
 returns : tie.Need-returns Inv-loop μ-loop
-returns c = tests-end _ _ _ (c .before .loop .inv .1) (omega arith) (omega arith) ∙ locks-are (c .before .before .before .before .args .state .now)
+returns c =
+    let start : tie.Start Inv-loop μ-loop = search needs in
+    tests-end _ _ _ (c .before .loop .inv .1) (omega arith) (omega arith) ∙ locks-are (start .args .state .now)
 
 pub locks-in-order-spec : {M : Type 1} → statement M
 locks-in-order-spec =
-    tie.close
-    (tie.spec
-    Inv-loop
-    μ-loop
-    (λ c κs. search needs)
-    loop-holds
-    (λ c κs. search needs)
-    add-holder
-    loop-less
-    loop-again
-    returns)
+    tie.close (tie.spec Inv-loop μ-loop (λ c κs. search needs) loop-holds (λ c κs. search needs) (λ c. omega arith)
+    (λ c. omega arith) loop-again returns)

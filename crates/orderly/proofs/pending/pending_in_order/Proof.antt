@@ -1,10 +1,5 @@
 -- `orderly::pending::pending_in_order` meets its contract. The invariant: the pending kW of the holders passed are tested.
-use Prim.Native.Nat.{ℕ, _≤_, _-_}
-use mathlib.Core.Path.{_≡_, _∙_}
-use native.Mathlib.Omega.{arith}
-use borrow.Author.Needs.{needs}
-use lib.Dec.{leb}
-use Rattle.base.specs.Sums.{allTo}
+use Rattle.base.proofs.Prelude.{ℕ, _-_, _≤_, _≡_, _∙_, arith, leb, needs, allTo}
 use Rattle.state.specs.Layout.{pendingOf, ofHolder}
 use Rattle.orderly.specs.Check.{mostPending}
 use Rattle.state.proofs.BaseMore.{tests-turn, tests-end}
@@ -24,28 +19,17 @@ loop-holds : tie.Need-loop-holds Inv-loop μ-loop
 unfolding allTo
 loop-holds c = search needs
 
-add-holder : tie.Need-add-holder Inv-loop μ-loop
-add-holder c = omega arith
-
-loop-less : tie.Need-loop-less Inv-loop μ-loop
-loop-less c = omega arith
-
 loop-again : tie.Need-loop-again Inv-loop μ-loop
-loop-again c = (omega arith, tests-turn _ _ (c .before .before .loop .inv .1) (c .holder-pending-in-order .ensures))
+loop-again c =
+    let at-loop : tie.At-loop Inv-loop μ-loop = search needs in
+    (omega arith, tests-turn _ _ (at-loop .loop .inv .1) (c .holder-pending-in-order .ensures))
 
 returns : tie.Need-returns Inv-loop μ-loop
-returns c = tests-end _ _ _ (c .before .loop .inv .1) (omega arith) (omega arith) ∙ pending-is (c .before .before .before .before .args .state .now)
+returns c =
+    let start : tie.Start Inv-loop μ-loop = search needs in
+    tests-end _ _ _ (c .before .loop .inv .1) (omega arith) (omega arith) ∙ pending-is (start .args .state .now)
 
 pub pending-in-order-spec : {M : Type 1} → statement M
 pending-in-order-spec =
-    tie.close
-    (tie.spec
-    Inv-loop
-    μ-loop
-    (λ c κs. search needs)
-    loop-holds
-    (λ c κs. search needs)
-    add-holder
-    loop-less
-    loop-again
-    returns)
+    tie.close (tie.spec Inv-loop μ-loop (λ c κs. search needs) loop-holds (λ c κs. search needs) (λ c. omega arith)
+    (λ c. omega arith) loop-again returns)

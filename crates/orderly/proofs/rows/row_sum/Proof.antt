@@ -1,10 +1,5 @@
 -- `orderly::rows::row_sum` meets its contract. The invariant: the words passed are added, each below 2 ^ 32.
-use Prim.Native.Nat.{ℕ, _≤_, _*_, _-_}
-use mathlib.Core.Path.{_≡_}
-use native.Mathlib.Omega.{arith}
-use borrow.Author.Needs.{needs}
-use Rattle.base.specs.Sums.{sumTo}
-use Rattle.base.specs.Words.{at}
+use Rattle.base.proofs.Prelude.{ℕ, _-_, _*_, _≤_, _≡_, arith, needs, sumTo, at}
 use Rattle.state.specs.Layout.{place}
 use Rattle.state.proofs.BaseMore.{sum-turn, sum-end}
 use Rattle.orderly.proofs.rows.row_sum.Statement.{statement}
@@ -21,32 +16,15 @@ loop-holds : tie.Need-loop-holds Inv-loop μ-loop
 unfolding sumTo
 loop-holds c = search needs
 
-add-sum : tie.Need-add-sum Inv-loop μ-loop
-add-sum c = omega arith
-
-add-column : tie.Need-add-column Inv-loop μ-loop
-add-column c = omega arith
-
-loop-less : tie.Need-loop-less Inv-loop μ-loop
-loop-less c = omega arith
-
 loop-again : tie.Need-loop-again Inv-loop μ-loop
-loop-again c = (omega arith, omega arith, sum-turn _ _ (c .before .before .loop .inv .2) (c .row-word .ensures))
+loop-again c =
+    let at-loop : tie.At-loop Inv-loop μ-loop = search needs in
+    (omega arith, omega arith, sum-turn _ _ (at-loop .loop .inv .2) (c .row-word .ensures))
 
 returns : tie.Need-returns Inv-loop μ-loop
 returns c = sum-end _ _ _ (c .before .loop .inv .2) (c .before .loop .inv .0) (c .loop-test .left)
 
 pub row-sum-spec : {M : Type 1} → statement M
 row-sum-spec =
-    tie.close
-    (tie.spec
-    Inv-loop
-    μ-loop
-    loop-holds
-    (λ c κs. search needs)
-    (λ c. search needs)
-    add-sum
-    add-column
-    loop-less
-    loop-again
-    returns)
+    tie.close (tie.spec Inv-loop μ-loop loop-holds (λ c κs. search needs) (λ c. search needs) (λ c. omega arith)
+    (λ c. omega arith) (λ c. omega arith) loop-again returns)

@@ -1,10 +1,5 @@
 -- `orderly::rows::row_within` meets its contract. The invariant: the faults of the words passed are counted.
-use Prim.Native.Nat.{ℕ, _≤_, _-_}
-use mathlib.Core.Path.{_≡_}
-use native.Mathlib.Omega.{arith}
-use borrow.Author.Needs.{needs}
-use lib.Dec.{leb}
-use Rattle.base.specs.Words.{at}
+use Rattle.base.proofs.Prelude.{ℕ, _-_, _≤_, _≡_, arith, leb, needs, at}
 use Rattle.state.specs.Layout.{place}
 use Rattle.state.proofs.BaseMore.{faultsTo, faults-zero, faults-turn, faults-turn-most, faults-end}
 use Rattle.orderly.proofs.rows.row_within.Statement.{statement}
@@ -22,31 +17,18 @@ loop-holds c = (omega arith, faults-zero _)
 
 add-faults : tie.Need-add-faults Inv-loop μ-loop
 add-faults c =
-    omega (arith, faults-turn-most _ _ {f = c .above .result} (c .before .before .before .loop .inv .1) (cc))
-
-add-column : tie.Need-add-column Inv-loop μ-loop
-add-column c = omega arith
-
-loop-less : tie.Need-loop-less Inv-loop μ-loop
-loop-less c = omega arith
+    let at-loop : tie.At-loop Inv-loop μ-loop = search needs in
+    omega (arith, faults-turn-most _ _ {f = c .above .result} (at-loop .loop .inv .1) (cc))
 
 loop-again : tie.Need-loop-again Inv-loop μ-loop
-loop-again c = (omega arith, faults-turn _ _ (c .before .before .before .loop .inv .1) (cc))
+loop-again c =
+    let at-loop : tie.At-loop Inv-loop μ-loop = search needs in
+    (omega arith, faults-turn _ _ (at-loop .loop .inv .1) (cc))
 
 returns : tie.Need-returns Inv-loop μ-loop
 returns c = faults-end _ _ _ (c .before .loop .inv .1) (c .before .loop .inv .0) (c .loop-test .left)
 
 pub row-within-spec : {M : Type 1} → statement M
 row-within-spec =
-    tie.close
-    (tie.spec
-    Inv-loop
-    μ-loop
-    loop-holds
-    (λ c κs. search needs)
-    (λ c κs. search needs)
-    add-faults
-    add-column
-    loop-less
-    loop-again
-    returns)
+    tie.close (tie.spec Inv-loop μ-loop loop-holds (λ c κs. search needs) (λ c κs. search needs) add-faults
+    (λ c. omega arith) (λ c. omega arith) loop-again returns)

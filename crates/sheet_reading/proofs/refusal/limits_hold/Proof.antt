@@ -1,8 +1,5 @@
 -- `sheet_reading::refusal::limits_hold` meets its contract: after i turns the test of the first i interties. The measure is the interties still to come.
-use Prim.Native.Nat.{_≤_, _-_, zero-le}
-use mathlib.Core.Path.{_≡_, sym}
-use borrow.Author.Needs.{needs}
-use Rattle.base.specs.Sums.{allTo}
+use Rattle.base.proofs.Prelude.{_-_, _≤_, zero-le, _≡_, sym, needs, allTo}
 use Rattle.base.proofs.SumLaws.{allTo-zero, all-more, all-done}
 use Rattle.sheet_reading.specs.Deciding.{tableLimitHolds}
 use Rattle.sheet_reading.proofs.refusal.limits_hold.Statement.{statement}
@@ -18,12 +15,14 @@ loop-holds : tie.Need-loop-holds Inv-loop μ-loop
 loop-holds c = (zero-le, sym (allTo-zero _))
 
 loop-again : tie.Need-loop-again Inv-loop μ-loop
-loop-again c = (search needs, all-more _ _ _ _ (c .before .before .loop .inv .1) (c .limit-holds .ensures))
+loop-again c =
+    let at-loop : tie.At-loop Inv-loop μ-loop = search needs in
+    (search needs, all-more _ _ _ _ (at-loop .loop .inv .1) (c .limit-holds .ensures))
 
 returns : tie.Need-returns Inv-loop μ-loop
 returns c = all-done _ _ _ _ (c .before .loop .inv .1) (c .before .loop .inv .0) (c .loop-test .left)
 
 pub limits-hold-spec : {M : Type 1} → statement M
 limits-hold-spec =
-    tie.close
-    (tie.spec Inv-loop μ-loop loop-holds (λ c κs. search needs) (λ c. search needs) (λ c. search needs) loop-again returns)
+    tie.close (tie.spec Inv-loop μ-loop loop-holds (λ c κs. search needs) (λ c. search needs) (λ c. search needs)
+    loop-again returns)

@@ -1,11 +1,6 @@
 -- `sheet_reading::refusal::read_sheet` meets its contract: numbers 1 and 2 leave the tables alone, and past them the tables are filled.
-use mathlib.Core.Path.{_≡_, refl, sym, _∙_}
-use mathlib.Core.Bool.{false}
-use native.Mathlib.Omega.{arith}
-use borrow.Author.Needs.{needs}
-use denote.Ref.{now}
+use Rattle.base.proofs.Prelude.{_≡_, refl, sym, _∙_, false, now, needs}
 use Rattle.sheet_records.specs.Refusal.{badLength, badSizes}
-use Rattle.sheet_records.proofs.RefusalLaws.{whole-by}
 use Rattle.sheet_reading.proofs.DecideLaws.{sizes-decided, read-sheet-1, read-sheet-2, read-sheet-filled}
 use Rattle.sheet_reading.proofs.refusal.read_sheet.Statement.{statement}
 use Rattle.sheet_reading.proofs.refusal.read_sheet.Tie as tie
@@ -13,53 +8,47 @@ use Rattle.sheet_reading.proofs.refusal.read_sheet.Tie as tie
 returns : tie.Need-returns
 returns c = read-sheet-1 _ _ _ _ _ (c .before .bad-length .ensures) (c .if1 .taken)
 
-intertie-count-requires : tie.Need-intertie-count-requires
-intertie-count-requires c κs = sym (c .before .bad-length .ensures) ∙ c .if1 .left
-
 holder-count-requires : tie.Need-holder-count-requires
-holder-count-requires c κs = sym (c .before .before .bad-length .ensures) ∙ c .before .if1 .left
+holder-count-requires c κs =
+    let after-bad-length : tie.After-bad-length = search needs in
+    sym (after-bad-length .bad-length .ensures) ∙ c .before .if1 .left
 
 -- the test of number 2
 sizes : (c : tie.After-bad-sizes) → c .bad-sizes .result ≡ badSizes (now (c .before .before .before .before .before .before .args .sheet))
-sizes c = sizes-decided _ _ _ _ (c .before .before .intertie-count .ensures) (c .before .holder-count .ensures) (c .bad-sizes .ensures)
+sizes c =
+    let after-intertie-count : tie.After-intertie-count = search needs in
+    sizes-decided _ _ _ _ (after-intertie-count .intertie-count .ensures) (c .before .holder-count .ensures) (c .bad-sizes .ensures)
 
 -- past numbers 1 and 2
 passed : (c : tie.Else2) → (badLength (now (c .before .before .before .before .before .before .before .args .sheet)) ≡ false) × (badSizes (now (c .before .before .before .before .before .before .before .args .sheet)) ≡ false)
 passed c =
-    let long = c .before .before .before .before in
-    (sym (long .before .bad-length .ensures) ∙ long .if1 .left, sym (sizes (c .before)) ∙ c .if2 .left)
+    let else1 : tie.Else1 = search needs in let after-bad-length : tie.After-bad-length = search needs in
+    (sym (after-bad-length .bad-length .ensures) ∙ else1 .if1 .left, sym (sizes (c .before)) ∙ c .if2 .left)
 
 returns-2 : tie.Need-returns-2
 returns-2 c =
-    let long = c .before .before .before .before in
-    read-sheet-2 _ _ _ _ _ _ (long .before .bad-length .ensures) (long .if1 .left) (sizes (c .before)) (c .if2 .taken)
-
-find-slots-requires : tie.Need-find-slots-requires
-find-slots-requires c κs = (passed (c .before) .0, search needs)
+    let else1 : tie.Else1 = search needs in let after-bad-length : tie.After-bad-length = search needs in
+    read-sheet-2 _ _ _ _ _ _ (after-bad-length .bad-length .ensures) (else1 .if1 .left) (sizes (c .before)) (c .if2 .taken)
 
 place-records-requires : tie.Need-place-records-requires
-place-records-requires c κs = (passed (c .before .before .before .before .before) .0, c .before .before .before .find-slots .ensures, refl)
+place-records-requires c κs =
+    let else2 : tie.Else2 = search needs in let after-find-slots : tie.After-find-slots = search needs in
+    (passed else2 .0, after-find-slots .find-slots .ensures, refl)
 
 read-sized-requires : tie.Need-read-sized-requires
-read-sized-requires c κs = let p = passed (c .before .before .before .before .before .before .before .before .before .before .before) in (p .0, p .1, c .before .before .before .before .before .before .before .before .before .find-slots .ensures, refl, refl)
+read-sized-requires c κs =
+    let else2 : tie.Else2 = search needs in let after-find-slots : tie.After-find-slots = search needs in
+    let p = passed else2 in (p .0, p .1, after-find-slots .find-slots .ensures, refl, refl)
 
 returns-3 : tie.Need-returns-3
 returns-3 c =
-    let p = passed (c .before .before .before .before .before .before .before .before .before .before .before .before) in
+    let else2 : tie.Else2 = search needs in let after-place-records : tie.After-place-records = search needs in
+    let p = passed else2 in
     read-sheet-filled _ _ _ _ _ _ _ _ (p .0) (p .1) (c .read-sized .ensures .0)
-    (record { counted = c .read-sized .ensures .1; summed = c .read-sized .ensures .2; placed = c .before .before .before .before .before .before .place-records .ensures })
+    (record { counted = c .read-sized .ensures .1; summed = c .read-sized .ensures .2; placed = after-place-records .place-records .ensures })
 
 pub read-sheet-spec : {M : Type 1} → statement M
 read-sheet-spec =
-    tie.close
-    (tie.spec
-    (λ c κs. search needs)
-    returns
-    intertie-count-requires
-    holder-count-requires
-    (λ c κs. search needs)
-    returns-2
-    find-slots-requires
-    place-records-requires
-    read-sized-requires
-    returns-3)
+    tie.close (tie.spec (λ c κs. search needs) returns (λ c κs. sym (c .before .bad-length .ensures) ∙ c .if1 .left)
+    holder-count-requires (λ c κs. search needs) returns-2 (λ c κs. (passed (c .before) .0, search needs))
+    place-records-requires read-sized-requires returns-3)

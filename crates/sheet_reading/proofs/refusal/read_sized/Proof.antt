@@ -1,24 +1,21 @@
 -- `sheet_reading::refusal::read_sized` meets its contract: what is decided from the filled tables is numbers 3 and 4 of the sheet.
-use mathlib.Core.Path.{_≡_, refl}
-use native.Mathlib.Omega.{arith}
-use borrow.Author.Needs.{needs}
+use Rattle.base.proofs.Prelude.{_≡_, refl, arith, now, needs}
 use borrow.Author.Tests.{not-true, not-false}
-use denote.Ref.{now}
 use Rattle.sheet_records.specs.Refusal.{rulesHold, limitsHold}
 use Rattle.sheet_records.proofs.RefusalLaws.{whole, sized}
 use Rattle.sheet_reading.proofs.DecideLaws.{modest, rules-decided, limits-decided, refused-3, refused-4, stands}
 use Rattle.sheet_reading.proofs.refusal.read_sized.Statement.{statement}
 use Rattle.sheet_reading.proofs.refusal.read_sized.Tie as tie
 
-intertie-count-requires : tie.Need-intertie-count-requires
-intertie-count-requires c κs = c .before .pre .0
-
 holder-count-requires : tie.Need-holder-count-requires
-holder-count-requires c κs = c .before .before .pre .0
+holder-count-requires c κs =
+    let start : tie.Start = search needs in
+    start .pre .0
 
 add-records-requires : tie.Need-add-records-requires
 add-records-requires c κs =
-    let pre = c .before .before .before .before .before .before .pre in
+    let start : tie.Start = search needs in
+    let pre = start .pre in
     (pre .0, pre .2, pre .3, pre .4)
 
 -- before the tables were filled: the test of each record, the two words that were read, and the function's entry
@@ -38,13 +35,13 @@ rules-hold-requires c κs =
 
 limits-hold-requires : tie.Need-limits-hold-requires
 limits-hold-requires c κs =
-    let filled = c .before .before .before in
-    let read = words filled in
-    let pre = entry filled .pre in
+    let after-add-records : tie.After-add-records = search needs in
+    let read = words after-add-records in
+    let pre = entry after-add-records .pre in
     let sizes = sized _ (pre .1) in (
       omega (arith, sizes, read .holder-count .ensures),
       omega (arith, sizes, read .before .intertie-count .ensures),
-      rw (filled .add-records .ensures .1)
+      rw (after-add-records .add-records .ensures .1)
           (modest _ (whole _ _ (pre .0) refl .few) (λ i. read .before .before .shared-slice-known .given i .fits)),
     )
 
@@ -55,11 +52,12 @@ filledAt c = c .before .before .before .before
 -- the test of number 3 is that of the rules
 rules : (c : tie.After-limits-hold) → c .before .before .rules-hold .result ≡ rulesHold (now (entry (filledAt c) .args .sheet))
 rules c =
+    let after-rules-hold : tie.After-rules-hold = search needs in
     let filled = filledAt c in
     let pre = entry filled .pre in
     let read = words filled in
     rules-decided _ (pre .0) (pre .1) _ _ (read .holder-count .ensures) (read .before .intertie-count .ensures)
-    _ _ _ (tested filled .records-stand .ensures) (filled .add-records .ensures .0) (c .before .before .rules-hold .ensures)
+    _ _ _ (tested filled .records-stand .ensures) (filled .add-records .ensures .0) (after-rules-hold .rules-hold .ensures)
 
 -- the test of number 4 is that of the limits
 limits : (c : tie.After-limits-hold) → c .limits-hold .result ≡ limitsHold (now (entry (filledAt c) .args .sheet))
@@ -78,34 +76,23 @@ returns c =
 
 returns-2 : tie.Need-returns-2
 returns-2 c =
-    let decided = c .before .before in
-    let pre = entry (filledAt decided) .pre in (
-      refused-4 _ (pre .0) (pre .1) _ _ (rules decided) (not-false _ (c .before .if1 .left)) (limits decided) (not-true _ (c .if2 .taken)),
-      filledAt decided .add-records .ensures .0,
-      filledAt decided .add-records .ensures .1,
+    let after-limits-hold : tie.After-limits-hold = search needs in
+    let pre = entry (filledAt after-limits-hold) .pre in (
+      refused-4 _ (pre .0) (pre .1) _ _ (rules after-limits-hold) (not-false _ (c .before .if1 .left)) (limits after-limits-hold) (not-true _ (c .if2 .taken)),
+      filledAt after-limits-hold .add-records .ensures .0,
+      filledAt after-limits-hold .add-records .ensures .1,
     )
 
 returns-3 : tie.Need-returns-3
 returns-3 c =
-    let decided = c .before .before in
-    let pre = entry (filledAt decided) .pre in (
-      stands _ (pre .0) (pre .1) _ _ (rules decided) (not-false _ (c .before .if1 .left)) (limits decided) (not-false _ (c .if2 .left)),
-      filledAt decided .add-records .ensures .0,
-      filledAt decided .add-records .ensures .1,
+    let after-limits-hold : tie.After-limits-hold = search needs in
+    let pre = entry (filledAt after-limits-hold) .pre in (
+      stands _ (pre .0) (pre .1) _ _ (rules after-limits-hold) (not-false _ (c .before .if1 .left)) (limits after-limits-hold) (not-false _ (c .if2 .left)),
+      filledAt after-limits-hold .add-records .ensures .0,
+      filledAt after-limits-hold .add-records .ensures .1,
     )
 
 pub read-sized-spec : {M : Type 1} → statement M
 read-sized-spec =
-    tie.close
-    (tie.spec
-    intertie-count-requires
-    (λ c. search needs)
-    holder-count-requires
-    (λ c. search needs)
-    (λ c κs. search needs)
-    add-records-requires
-    rules-hold-requires
-    limits-hold-requires
-    returns
-    returns-2
-    returns-3)
+    tie.close (tie.spec (λ c κs. c .before .pre .0) (λ c. search needs) holder-count-requires (λ c. search needs)
+    (λ c κs. search needs) add-records-requires rules-hold-requires limits-hold-requires returns returns-2 returns-3)

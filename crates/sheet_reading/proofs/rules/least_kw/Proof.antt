@@ -1,5 +1,5 @@
 -- `sheet_reading::rules::least_kw` meets its contract: each arm of the match is the least of its kinds.
-use borrow.Author.Needs.{needs}
+use Rattle.base.proofs.Prelude.{needs}
 use Rattle.base.proofs.Rules.{tests}
 use Rattle.sheet_reading.proofs.RuleLaws.{least-load-share}
 use Rattle.sheet_reading.proofs.rules.least_kw.Statement.{statement}
@@ -15,4 +15,5 @@ returns-3 : tie.Need-returns-3
 returns-3 c = search tests
 
 pub least-kw-spec : {M : Type 1} → statement M
-least-kw-spec = tie.close (tie.spec returns returns-2 returns-3)
+least-kw-spec =
+    tie.close (tie.spec returns returns-2 returns-3)

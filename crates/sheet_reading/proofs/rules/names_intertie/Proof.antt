@@ -1,5 +1,5 @@
 -- `sheet_reading::rules::names_intertie` meets its contract: each arm of the match is the test of its kinds.
-use native.Mathlib.Omega.{arith}
+use Rattle.base.proofs.Prelude.{arith}
 use Rattle.base.proofs.Rules.{tests}
 use Rattle.sheet_reading.proofs.RuleLaws.{no-intertie-0}
 use Rattle.sheet_reading.proofs.rules.names_intertie.Statement.{statement}
@@ -21,4 +21,5 @@ returns-5 : tie.Need-returns-5
 returns-5 c = search tests
 
 pub names-intertie-spec : {M : Type 1} → statement M
-names-intertie-spec = tie.close (tie.spec returns returns-2 returns-3 returns-4 returns-5)
+names-intertie-spec =
+    tie.close (tie.spec returns returns-2 returns-3 returns-4 returns-5)

@@ -1,10 +1,6 @@
 -- `sheet_reading::rules::records_stand` meets its contract: the tests of n records (`Tested`), of one more, and of all. The measure is the
 -- records still to come.
-use Prim.Native.Nat.{ℕ, _-_}
-use mathlib.Core.Path.{_≡_, refl, _∙_}
-use native.Mathlib.Omega.{arith}
-use borrow.Author.Needs.{needs}
-use denote.Ref.{now}
+use Rattle.base.proofs.Prelude.{ℕ, _-_, _≡_, _∙_, arith, now, needs}
 use Rattle.sheet_records.specs.Sheet.{count}
 use Rattle.sheet_records.specs.Reading.{readAt, readOf}
 use Rattle.sheet_records.proofs.RefusalLaws.{whole}
@@ -35,53 +31,48 @@ at-place c n e = of-whole _ n _ (whole _ n (entry c .pre) e)
 here : (c : tie.After-read Inv-loop μ-loop) →
     let head : tie.At-loop Inv-loop μ-loop = c .before .before .before in
     RecordRead (now (entry head .args .sheet)) (head .loop .cursor .at) (c .read .given .0 .0) (c .read .given .0 .1 .0)
-here c = record-read _ _ _ _ _ (entry (c .before .before .before) .pre) (c .before .before .read-record .ensures ∙ at-place (c .before .before .before) _ (words (c .before .before .before) .record-count .ensures)) (c .read .given .1)
-
-intertie-count-requires : tie.Need-intertie-count-requires Inv-loop μ-loop
-intertie-count-requires c κs = c .before .pre
+here c =
+    let at-loop : tie.At-loop Inv-loop μ-loop = search needs in
+    let after-read-record : tie.After-read-record Inv-loop μ-loop = search needs in
+    record-read _ _ _ _ _ (entry at-loop .pre) (after-read-record .read-record .ensures ∙ at-place at-loop _ (words at-loop .record-count .ensures)) (c .read .given .1)
 
 holder-count-requires : tie.Need-holder-count-requires Inv-loop μ-loop
-holder-count-requires c κs = c .before .before .pre
+holder-count-requires c κs =
+    let start : tie.Start Inv-loop μ-loop = search needs in
+    start .pre
 
 record-count-requires : tie.Need-record-count-requires Inv-loop μ-loop
-record-count-requires c κs = c .before .before .before .pre
+record-count-requires c κs =
+    let start : tie.Start Inv-loop μ-loop = search needs in
+    start .pre
 
 loop-holds : tie.Need-loop-holds Inv-loop μ-loop
 loop-holds c = tested-none _ _ (c .first .ensures)
 
 loop-less : tie.Need-loop-less Inv-loop μ-loop
-loop-less c = omega (arith, here (c .before .before))
+loop-less c =
+    let after-read : tie.After-read Inv-loop μ-loop = search needs in
+    omega (arith, here after-read)
 
 loop-again : tie.Need-loop-again Inv-loop μ-loop
 loop-again c =
-    let found = c .before .before in
-    let head = found .before .before .before in
-    let now = here found in
-    tested-more _ _ _ (head .loop .inv) _ _ _ _ _ _ (now .inside) (now .key-is) (now .kw-is)
-    (words head .before .before .intertie-count .ensures) (words head .before .holder-count .ensures) (c .record-stands .ensures) (now .next-is)
+    let after-read : tie.After-read Inv-loop μ-loop = search needs in
+    let at-loop : tie.At-loop Inv-loop μ-loop = search needs in
+    let after-record-count : tie.After-record-count Inv-loop μ-loop = search needs in
+    let after-first : tie.After-first Inv-loop μ-loop = search needs in
+    let now = here after-read in
+    tested-more _ _ _ (at-loop .loop .inv) _ _ _ _ _ _ (now .inside) (now .key-is) (now .kw-is)
+    (words after-record-count .intertie-count .ensures) (words after-first .holder-count .ensures) (c .record-stands .ensures) (now .next-is)
 
 returns : tie.Need-returns Inv-loop μ-loop
 returns c =
-    let head = c .before .before .before in
-    tested-all _ _ _ (head .loop .inv)
-    (at-end _ _ _ (entry head .pre) (c .before .before .read-record .ensures ∙ at-place head _ (words head .record-count .ensures)) (c .enum-told .given .1))
+    let at-loop : tie.At-loop Inv-loop μ-loop = search needs in
+    let after-read-record : tie.After-read-record Inv-loop μ-loop = search needs in
+    tested-all _ _ _ (at-loop .loop .inv)
+    (at-end _ _ _ (entry at-loop .pre) (after-read-record .read-record .ensures ∙ at-place at-loop _ (words at-loop .record-count .ensures)) (c .enum-told .given .1))
 
 pub records-stand-spec : {M : Type 1} → statement M
 records-stand-spec =
-    tie.close
-    (tie.spec
-    Inv-loop
-    μ-loop
-    intertie-count-requires
-    holder-count-requires
-    record-count-requires
-    (λ c. search needs)
-    (λ c κs. search needs)
-    loop-holds
-    (λ c κs. search needs)
-    (λ c. search needs)
-    (λ c κs. search needs)
-    loop-less
-    loop-again
-    (λ c. search needs)
-    returns)
+    tie.close (tie.spec Inv-loop μ-loop (λ c κs. c .before .pre) holder-count-requires record-count-requires
+    (λ c. search needs) (λ c κs. search needs) loop-holds (λ c κs. search needs) (λ c. search needs)
+    (λ c κs. search needs) loop-less loop-again (λ c. search needs) returns)

@@ -1,10 +1,6 @@
 -- `sheet_reading::tables::find_slots` meets its contract: the slots of n records (`Slotted`), of one more, and of all. The measure is the
 -- records still to come.
-use Prim.Native.Nat.{ℕ, _-_}
-use mathlib.Core.Path.{_≡_, refl, _∙_}
-use native.Mathlib.Omega.{arith}
-use borrow.Author.Needs.{needs}
-use denote.Ref.{now}
+use Rattle.base.proofs.Prelude.{ℕ, _-_, _≡_, refl, _∙_, arith, now, needs}
 use Rattle.sheet_records.specs.Sheet.{count}
 use Rattle.sheet_records.specs.Reading.{readAt, readOf}
 use Rattle.sheet_records.proofs.RefusalLaws.{whole}
@@ -35,52 +31,42 @@ at-place c n e = of-whole _ n _ (whole _ n (entry c .pre .0) e)
 here : (c : tie.After-read Inv-loop μ-loop) →
     let head : tie.At-loop Inv-loop μ-loop = c .before .before .before in
     RecordRead (now (entry head .args .sheet)) (head .loop .cursor .at) (c .read .given .0 .0) (c .read .given .0 .1 .0)
-here c = record-read _ _ _ _ _ (entry (c .before .before .before) .pre .0) (c .before .before .read-record .ensures ∙ at-place (c .before .before .before) _ (words (c .before .before .before) .record-count .ensures)) (c .read .given .1)
-
-record-count-requires : tie.Need-record-count-requires Inv-loop μ-loop
-record-count-requires c κs = c .before .pre .0
+here c =
+    let at-loop : tie.At-loop Inv-loop μ-loop = search needs in
+    let after-read-record : tie.After-read-record Inv-loop μ-loop = search needs in
+    record-read _ _ _ _ _ (entry at-loop .pre .0) (after-read-record .read-record .ensures ∙ at-place at-loop _ (words at-loop .record-count .ensures)) (c .read .given .1)
 
 loop-holds : tie.Need-loop-holds Inv-loop μ-loop
 loop-holds c = slotted-none _ _ _ (c .first .ensures)
 
 element-write-found : tie.Need-element-write-found Inv-loop μ-loop
 element-write-found c =
-    let found = c .before .before in
-    let now = here found in
-    omega (arith, now .inside, whole _ _ (entry (found .before .before .before) .pre .0) refl .few)
+    let after-read : tie.After-read Inv-loop μ-loop = search needs in
+    let at-loop : tie.At-loop Inv-loop μ-loop = search needs in
+    let now = here after-read in
+    omega (arith, now .inside, whole _ _ (entry at-loop .pre .0) refl .few)
 
 loop-less : tie.Need-loop-less Inv-loop μ-loop
-loop-less c = omega (arith, here (c .before .before))
+loop-less c =
+    let after-read : tie.After-read Inv-loop μ-loop = search needs in
+    omega (arith, here after-read)
 
 loop-again : tie.Need-loop-again Inv-loop μ-loop
 loop-again c =
-    let found = c .before .before in
-    let head = found .before .before .before in
-    let now = here found in
-    slotted-more _ _ _ _ (head .loop .inv) _ _ _ (now .inside) (now .key-is) (c .slot-of .ensures) (now .next-is)
+    let after-read : tie.After-read Inv-loop μ-loop = search needs in
+    let at-loop : tie.At-loop Inv-loop μ-loop = search needs in
+    let now = here after-read in
+    slotted-more _ _ _ _ (at-loop .loop .inv) _ _ _ (now .inside) (now .key-is) (c .slot-of .ensures) (now .next-is)
 
 returns : tie.Need-returns Inv-loop μ-loop
 returns c =
-    let head = c .before .before .before in
-    slotted-all _ _ _ _ (head .loop .inv) (entry head .pre .1) (whole _ _ (entry head .pre .0) refl .few)
-    (at-end _ _ _ (entry head .pre .0) (c .before .before .read-record .ensures ∙ at-place head _ (words head .record-count .ensures)) (c .enum-told .given .1))
+    let at-loop : tie.At-loop Inv-loop μ-loop = search needs in
+    let after-read-record : tie.After-read-record Inv-loop μ-loop = search needs in
+    slotted-all _ _ _ _ (at-loop .loop .inv) (entry at-loop .pre .1) (whole _ _ (entry at-loop .pre .0) refl .few)
+    (at-end _ _ _ (entry at-loop .pre .0) (after-read-record .read-record .ensures ∙ at-place at-loop _ (words at-loop .record-count .ensures)) (c .enum-told .given .1))
 
 pub find-slots-spec : {M : Type 1} → statement M
 find-slots-spec =
-    tie.close
-    (tie.spec
-    Inv-loop
-    μ-loop
-    record-count-requires
-    (λ c. search needs)
-    (λ c κs. search needs)
-    loop-holds
-    (λ c κs. search needs)
-    (λ c. search needs)
-    (λ c κs. search needs)
-    (λ c. search needs)
-    element-write-found
-    loop-less
-    loop-again
-    (λ c. search needs)
-    returns)
+    tie.close (tie.spec Inv-loop μ-loop (λ c κs. c .before .pre .0) (λ c. search needs) (λ c κs. search needs)
+    loop-holds (λ c κs. search needs) (λ c. search needs) (λ c κs. search needs) (λ c. search needs)
+    element-write-found loop-less loop-again (λ c. search needs) returns)

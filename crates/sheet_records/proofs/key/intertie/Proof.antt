@@ -1,6 +1,6 @@
 -- `sheet_records::key::intertie` meets its contract: a mask of 6 bits is the remainder by 64.
+use Rattle.base.proofs.Prelude.{_/_}
 use lib.Bits.{and-mask}
-use Prim.Native.Nat.{_/_}
 use Rattle.sheet_records.proofs.key.intertie.Statement.{statement}
 use Rattle.sheet_records.proofs.key.intertie.Tie as tie
 
@@ -8,4 +8,5 @@ returns : tie.Need-returns
 returns c = and-mask (c .args .key / 1024) 6
 
 pub intertie-spec : {M : Type 1} → statement M
-intertie-spec = tie.close (tie.spec returns)
+intertie-spec =
+    tie.close (tie.spec returns)

@@ -7,4 +7,5 @@ returns : tie.Need-returns
 returns c = and-mask (c .args .key) 4
 
 pub kind-spec : {M : Type 1} → statement M
-kind-spec = tie.close (tie.spec returns)
+kind-spec =
+    tie.close (tie.spec returns)

@@ -1,5 +1,5 @@
 -- `sheet_records::words::bad_length` meets its contract: each test decides its part of number 1.
-use borrow.Author.Needs.{needs}
+use Rattle.base.proofs.Prelude.{needs}
 use Rattle.sheet_records.proofs.RefusalLaws.{short-is-bad, many-is-bad, length-decides}
 use Rattle.sheet_records.proofs.words.bad_length.Statement.{statement}
 use Rattle.sheet_records.proofs.words.bad_length.Tie as tie
@@ -7,24 +7,13 @@ use Rattle.sheet_records.proofs.words.bad_length.Tie as tie
 returns : tie.Need-returns
 returns c = search (needs, short-is-bad)
 
-word-requires : tie.Need-word-requires
-word-requires c κs = search needs
-
-cast-count : tie.Need-cast-count
-cast-count c = search needs
-
 returns-2 : tie.Need-returns-2
 returns-2 c = search (needs, many-is-bad)
-
-mul-result : tie.Need-mul-result
-mul-result c = search needs
-
-add-result : tie.Need-add-result
-add-result c = search needs
 
 returns-3 : tie.Need-returns-3
 returns-3 c = search (needs, length-decides)
 
 pub bad-length-spec : {M : Type 1} → statement M
 bad-length-spec =
-    tie.close (tie.spec returns word-requires cast-count returns-2 mul-result add-result returns-3)
+    tie.close (tie.spec returns (λ c κs. search needs) (λ c. search needs) returns-2 (λ c. search needs)
+    (λ c. search needs) returns-3)

@@ -1,12 +1,6 @@
 -- `fill_quantities` meets its contract: after h turns the first h holders have theirs.
-use Prim.Native.Nat.{ℕ, _-_, _*_, _/_}
-use mathlib.Core.List.{List}
-use native.Mathlib.Omega.{arith}
-use lib.ListN.{length}
-use denote.Ref.{now}
-use Rattle.base.specs.Words.{at}
+use Rattle.base.proofs.Prelude.{ℕ, _-_, _*_, _/_, List, arith, length, now, needs, at}
 use Rattle.steps_2_to_4.proofs.VectorLaws.{Filling, filling-none, filling-next, filling-all}
-use borrow.Author.Needs.{needs}
 use Rattle.steps_2_to_4.proofs.step_2.fill_quantities.Statement.{statement}
 use Rattle.steps_2_to_4.proofs.step_2.fill_quantities.Tie as tie
 
@@ -23,33 +17,22 @@ loop-holds : tie.Need-loop-holds Inv-loop μ-loop
 loop-holds c = filling-none _ _
 
 quantity-requires : tie.Need-quantity-requires Inv-loop μ-loop
-quantity-requires c κs = (c .before .before .before .before .before .pre .0, c .before .before .before .before .before .pre .1 (c .before .before .loop .h) (omega arith))
+quantity-requires c κs =
+    let start : tie.Start Inv-loop μ-loop = search needs in
+    let at-loop : tie.At-loop Inv-loop μ-loop = search needs in
+    (start .pre .0, start .pre .1 (at-loop .loop .h) (omega arith))
 
 loop-again : tie.Need-loop-again Inv-loop μ-loop
 loop-again c =
-    let a = c .before .before .before .before .before .before .args in
-    filling-next (of (a .total) (a .all) (now (a .loads))) _ _ _ _ (c .before .before .before .loop .inv) (omega arith) (c .quantity .ensures)
-
-same-length : tie.Need-same-length Inv-loop μ-loop
-same-length c = c .before .loop .inv .size
+    let at-loop : tie.At-loop Inv-loop μ-loop = search needs in
+    let start : tie.Start Inv-loop μ-loop = search needs in let a = start .args in
+    filling-next (of (a .total) (a .all) (now (a .loads))) _ _ _ _ (at-loop .loop .inv) (omega arith) (c .quantity .ensures)
 
 returns : tie.Need-returns Inv-loop μ-loop
 returns c = filling-all _ _ _ _ (c .before .loop .inv) (c .loop-test .left)
 
 pub fill-quantities-spec : {M : Type 1} → statement M
 fill-quantities-spec =
-    tie.close
-    (tie.spec
-    Inv-loop
-    μ-loop
-    loop-holds
-    (λ c. search needs)
-    (λ c. search needs)
-    quantity-requires
-    (λ c. search needs)
-    (λ c. search needs)
-    (λ c. search needs)
-    (λ c. search needs)
-    loop-again
-    same-length
-    returns)
+    tie.close (tie.spec Inv-loop μ-loop loop-holds (λ c. search needs) (λ c. search needs) quantity-requires
+    (λ c. search needs) (λ c. search needs) (λ c. search needs) (λ c. search needs) loop-again
+    (λ c. c .before .loop .inv .size) returns)

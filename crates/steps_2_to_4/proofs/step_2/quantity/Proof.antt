@@ -1,9 +1,6 @@
 -- `quantity` meets its contract: by 0 antt divides to 0, and the product is within the ranges of T and a load share.
-use Prim.Native.Nat.{_*_, _/_, _≤_}
-use mathlib.Core.Path.{_≡_, sym}
+use Rattle.base.proofs.Prelude.{_*_, _/_, _≤_, _≡_, sym, arith, needs}
 use native.Mathlib.Nat.{mul-le-mul, div-zero}
-use native.Mathlib.Omega.{arith}
-use borrow.Author.Needs.{needs}
 use Rattle.steps_2_to_4.proofs.step_2.quantity.Statement.{statement}
 use Rattle.steps_2_to_4.proofs.step_2.quantity.Tie as tie
 
@@ -19,11 +16,9 @@ mul-result c =
     let most : a .total * a .load ≤ 960000000 * 100000000 = mul-le-mul (c .before .pre .0) (c .before .pre .1) in
     omega arith
 
-div-result : tie.Need-div-result
-div-result c = search needs
-
 returns-2 : tie.Need-returns-2
 returns-2 c = search needs
 
 pub quantity-spec : {M : Type 1} → statement M
-quantity-spec = tie.close (tie.spec returns mul-result div-result returns-2)
+quantity-spec =
+    tie.close (tie.spec returns mul-result (λ c. search needs) returns-2)

@@ -1,13 +1,6 @@
 -- `differences` meets its contract: after c turns the first c words are written.
-use Prim.Native.Nat.{ℕ, _+_, _-_, _≤_}
-use mathlib.Core.Path.{_≡_, refl, sym, ap, _∙_}
-use mathlib.Core.List.{List}
-use native.Mathlib.Omega.{arith}
-use lib.ListN.{length}
-use denote.Ref.{now}
-use Rattle.base.specs.Words.{at}
-use Rattle.steps_2_to_4.proofs.VectorLaws.{Filling, filling-none, filling-later, filling-next, filling-all}
-use borrow.Author.Needs.{needs}
+use Rattle.base.proofs.Prelude.{ℕ, _-_, List, arith, length, now, needs, at}
+use Rattle.steps_2_to_4.proofs.VectorLaws.{Filling, filling-none, filling-next, filling-all}
 use Rattle.steps_2_to_4.proofs.vectors.differences.Statement.{statement}
 use Rattle.steps_2_to_4.proofs.vectors.differences.Tie as tie
 
@@ -25,31 +18,15 @@ loop-holds c = filling-none _ _
 
 loop-again : tie.Need-loop-again Inv-loop μ-loop
 loop-again c =
-    let a = c .before .before .before .before .before .before .before .before .args in
-    filling-next (word (now (a .list)) (now (a .other))) _ _ _ _ (c .before .before .before .before .loop .inv) (omega arith) (c .excess .ensures)
-
-same-length : tie.Need-same-length Inv-loop μ-loop
-same-length c = c .before .loop .inv .size
+    let at-loop : tie.At-loop Inv-loop μ-loop = search needs in
+    let start : tie.Start Inv-loop μ-loop = search needs in let a = start .args in
+    filling-next (word (now (a .list)) (now (a .other))) _ _ _ _ (at-loop .loop .inv) (omega arith) (c .excess .ensures)
 
 returns : tie.Need-returns Inv-loop μ-loop
 returns c = filling-all _ _ _ _ (c .before .loop .inv) (c .loop-test .left)
 
 pub differences-spec : {M : Type 1} → statement M
 differences-spec =
-    tie.close
-    (tie.spec
-    Inv-loop
-    μ-loop
-    loop-holds
-    (λ c. search needs)
-    (λ c. search needs)
-    (λ c. search needs)
-    (λ c. search needs)
-    (λ c κs. search needs)
-    (λ c. search needs)
-    (λ c. search needs)
-    (λ c. search needs)
-    (λ c. search needs)
-    loop-again
-    same-length
-    returns)
+    tie.close (tie.spec Inv-loop μ-loop loop-holds (λ c. search needs) (λ c. search needs) (λ c. search needs)
+    (λ c. search needs) (λ c κs. search needs) (λ c. search needs) (λ c. search needs) (λ c. search needs)
+    (λ c. search needs) loop-again (λ c. c .before .loop .inv .size) returns)

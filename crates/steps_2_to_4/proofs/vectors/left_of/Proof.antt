@@ -1,14 +1,6 @@
 -- `left_of` meets its contract: after c turns the first c numbers are taken off.
-use Prim.Native.Nat.{ℕ, _+_, _-_, _*_, _≤_}
-use mathlib.Core.Path.{_≡_, refl, sym, ap, _∙_}
-use mathlib.Core.List.{List}
-use native.Mathlib.Omega.{arith}
-use lib.ListN.{length}
-use denote.Ref.{now}
-use Rattle.base.specs.Sums.{sumTo}
-use Rattle.base.specs.Words.{at}
+use Rattle.base.proofs.Prelude.{ℕ, _+_, _-_, _≤_, _≡_, ap, _∙_, List, arith, now, needs, sumTo, at}
 use Rattle.steps_2_to_4.proofs.VectorLaws.{less-none, less-more}
-use borrow.Author.Needs.{needs}
 use Rattle.steps_2_to_4.proofs.vectors.left_of.Statement.{statement}
 use Rattle.steps_2_to_4.proofs.vectors.left_of.Tie as tie
 
@@ -28,29 +20,19 @@ loop-holds c =
 
 loop-again : tie.Need-loop-again Inv-loop μ-loop
 loop-again c =
-    let a = c .before .before .before .before .before .args in (
+    let at-loop : tie.At-loop Inv-loop μ-loop = search needs in
+    let start : tie.Start Inv-loop μ-loop = search needs in let a = start .args in (
       search needs,
-      less-more (a .start) _ (c .before .before .before .loop .c) _ (word (now (a .list)) (a .from)) (c .before .before .before .loop .inv .1) (c .excess .ensures),
+      less-more (a .start) _ (at-loop .loop .c) _ (word (now (a .list)) (a .from)) (at-loop .loop .inv .1) (c .excess .ensures),
     )
 
 returns : tie.Need-returns Inv-loop μ-loop
 returns c =
-    let a = c .before .before .before .args in
+    let start : tie.Start Inv-loop μ-loop = search needs in let a = start .args in
     let end : c .before .loop .c ≡ a .count = omega arith in
     c .before .loop .inv .1 ∙ ap (λ n. a .start - sumTo n (word (now (a .list)) (a .from))) end
 
 pub left-of-spec : {M : Type 1} → statement M
 left-of-spec =
-    tie.close
-    (tie.spec
-    Inv-loop
-    μ-loop
-    loop-holds
-    (λ c. search needs)
-    (λ c. search needs)
-    (λ c. search needs)
-    (λ c κs. search needs)
-    (λ c. search needs)
-    (λ c. search needs)
-    loop-again
-    returns)
+    tie.close (tie.spec Inv-loop μ-loop loop-holds (λ c. search needs) (λ c. search needs) (λ c. search needs)
+    (λ c κs. search needs) (λ c. search needs) (λ c. search needs) loop-again returns)

@@ -1,13 +1,9 @@
 -- `comparing::same` meets its contract: after i turns the first i bytes are the same.
-use Prim.Native.Nat.{_-_, _≤_}
-use mathlib.Core.Path.{_≡_, refl}
-use denote.Ref.{now}
-use lib.ListN.{length, drop}
+use Rattle.base.proofs.Prelude.{_-_, _≤_, _≡_, refl, length, drop, now, needs}
 use Rattle.text.specs.Ascii.{same}
 use Rattle.text.proofs.SameLaws.{same-unlike, same-byte, other-byte, same-all}
 use Rattle.text.proofs.comparing.same.Statement.{statement}
 use Rattle.text.proofs.comparing.same.Tie as tie
-use borrow.Author.Needs.{needs}
 
 abbrev Inv-loop : tie.InvT-loop
 Inv-loop a b i₀ i = (i ≤ length a) × (length a ≡ length b) × (same (drop i a) (drop i b) ≡ same a b)
@@ -23,34 +19,25 @@ loop-holds c = (search needs, search needs, refl)
 
 returns-2 : tie.Need-returns-2 Inv-loop μ-loop
 returns-2 c =
-    let a = c .before .before .before .before .before .before .args in
-    let t = c .before .before .before .before .loop in
+    let at-loop : tie.At-loop Inv-loop μ-loop = search needs in
+    let start : tie.Start Inv-loop μ-loop = search needs in let a = start .args in
+    let t = at-loop .loop in
     other-byte (now (a .a)) (now (a .b)) (t .i) _ (t .inv .1) (t .inv .2) (search needs) (c .if2 .taken)
 
 loop-again : tie.Need-loop-again Inv-loop μ-loop
 loop-again c =
-    let a = c .before .before .before .before .before .before .args in
-    let t = c .before .before .before .before .loop in
+    let at-loop : tie.At-loop Inv-loop μ-loop = search needs in
+    let start : tie.Start Inv-loop μ-loop = search needs in let a = start .args in
+    let t = at-loop .loop in
     (search needs, search needs, same-byte (now (a .a)) (now (a .b)) (t .i) _ (t .inv .1) (t .inv .2) (search needs) (c .if2 .left))
 
 returns-3 : tie.Need-returns-3 Inv-loop μ-loop
 returns-3 c =
-    let a = c .before .before .before .args in
+    let start : tie.Start Inv-loop μ-loop = search needs in let a = start .args in
     let t = c .before .loop in
     same-all (now (a .a)) (now (a .b)) (t .i) _ (t .inv .1) (t .inv .2) (search needs)
 
 pub same-spec : {M : Type 1} → statement M
 same-spec =
-    tie.close
-    (tie.spec
-    Inv-loop
-    μ-loop
-    returns
-    loop-holds
-    (λ c. search needs)
-    (λ c. search needs)
-    returns-2
-    (λ c. search needs)
-    (λ c. search needs)
-    loop-again
-    returns-3)
+    tie.close (tie.spec Inv-loop μ-loop returns loop-holds (λ c. search needs) (λ c. search needs) returns-2
+    (λ c. search needs) (λ c. search needs) loop-again returns-3)

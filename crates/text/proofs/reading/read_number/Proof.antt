@@ -1,22 +1,21 @@
 -- `read_number` meets its contract: empty, no digits, or digits.
-use mathlib.Core.Path.{sym, _∙_}
-use denote.Ref.{now}
+use Rattle.base.proofs.Prelude.{sym, _∙_, now, needs}
 use borrow.Author.Tests.{not-true, not-false}
 use Rattle.text.proofs.ReadLaws.{number-empty, number-bad}
-use borrow.Author.Needs.{needs}
 use Rattle.text.proofs.reading.read_number.Statement.{statement}
 use Rattle.text.proofs.reading.read_number.Tie as tie
 use Rattle.text.proofs.reading.all_digits.Reads as all-digits-reads
 use Rattle.text.proofs.reading.digits_value.Reads as digits-value-reads
 
 returns : tie.Need-returns
-returns c = number-empty (now (c .before .before .args .text)) (search needs)
-
-all-digits-requires : tie.Need-all-digits-requires
-all-digits-requires c κs = search needs
+returns c =
+    let start : tie.Start = search needs in
+    number-empty (now (start .args .text)) (search needs)
 
 returns-2 : tie.Need-returns-2
-returns-2 c = number-bad (now (c .before .before .before .before .args .text)) (sym (not-true _ (c .if2 .taken)) ∙ c .before .all-digits .ensures)
+returns-2 c =
+    let start : tie.Start = search needs in
+    number-bad (now (start .args .text)) (sym (not-true _ (c .if2 .taken)) ∙ c .before .all-digits .ensures)
 
 digits-value-requires : tie.Need-digits-value-requires
 digits-value-requires c κs = (search needs, sym (c .before .all-digits .ensures) ∙ not-false _ (c .if2 .left))
@@ -26,4 +25,4 @@ returns-3 c = search needs
 
 pub read-number-spec : {M : Type 1} → statement M
 read-number-spec =
-    tie.close (tie.spec returns all-digits-requires returns-2 digits-value-requires returns-3)
+    tie.close (tie.spec returns (λ c κs. search needs) returns-2 digits-value-requires returns-3)

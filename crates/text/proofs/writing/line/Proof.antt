@@ -1,22 +1,26 @@
 -- `line` meets its contract: too long a label, too many figures, or a line.
-use denote.Ref.{now}
+use Rattle.base.proofs.Prelude.{now, needs}
 use Rattle.text.proofs.PutLaws.{label-refused, figures-refused, line-done}
-use borrow.Author.Needs.{needs}
 use Rattle.text.proofs.writing.line.Statement.{statement}
 use Rattle.text.proofs.writing.line.Tie as tie
 use Rattle.text.proofs.writing.put_line.Reads as put-line-reads
 
 returns : tie.Need-returns
-returns c = label-refused (now (c .before .before .before .args .label)) (c .before .before .before .args .separator) (now (c .before .before .before .args .figures)) (now (c .before .before .before .args .out)) (c .if1 .taken)
+returns c =
+    let start : tie.Start = search needs in
+    label-refused (now (start .args .label)) (start .args .separator) (now (start .args .figures)) (now (start .args .out)) (c .if1 .taken)
 
 returns-2 : tie.Need-returns-2
-returns-2 c = figures-refused (now (c .before .before .before .before .args .label)) (c .before .before .before .before .args .separator) (now (c .before .before .before .before .args .figures)) (now (c .before .before .before .before .args .out)) (search needs)
-
-put-line-requires : tie.Need-put-line-requires
-put-line-requires c κs = search needs
+returns-2 c =
+    let start : tie.Start = search needs in
+    figures-refused (now (start .args .label)) (start .args .separator) (now (start .args .figures)) (now (start .args .out)) (search needs)
 
 returns-3 : tie.Need-returns-3
-returns-3 c = line-done (now (c .before .before .before .before .before .before .args .label)) (c .before .before .before .before .before .before .args .separator) (now (c .before .before .before .before .before .before .args .figures)) _ _ _ (search needs) (c .before .before .before .if1 .left) (c .before .before .if2 .left) (c .put-line .ensures)
+returns-3 c =
+    let start : tie.Start = search needs in let else1 : tie.Else1 = search needs in
+    let else2 : tie.Else2 = search needs in
+    line-done (now (start .args .label)) (start .args .separator) (now (start .args .figures)) _ _ _ (search needs) (else1 .if1 .left) (else2 .if2 .left) (c .put-line .ensures)
 
 pub line-spec : {M : Type 1} → statement M
-line-spec = tie.close (tie.spec returns returns-2 put-line-requires returns-3)
+line-spec =
+    tie.close (tie.spec returns returns-2 (λ c κs. search needs) returns-3)

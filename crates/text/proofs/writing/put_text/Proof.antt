@@ -1,15 +1,10 @@
 -- `put_text` meets its contract: after i turns the first i bytes are written.
-use Prim.Native.Nat.{ℕ, _-_, _≤_}
-use mathlib.Core.Path.{_≡_, refl, sym, ap, _∙_}
-use mathlib.Core.List.{List}
-use lib.ListN.{length, take, length-set}
+use Rattle.base.proofs.Prelude.{ℕ, _-_, _≤_, _≡_, refl, sym, ap, _∙_, List, length, length-set, take, now, needs}
 use lib.Seq.{take-all}
-use denote.Ref.{now}
 use Rattle.text.specs.Written.{written}
 use Rattle.text.proofs.WrittenLaws.{written-none, elements-turn}
 use Rattle.text.proofs.writing.put_text.Statement.{statement}
 use Rattle.text.proofs.writing.put_text.Tie as tie
-use borrow.Author.Needs.{needs}
 
 abbrev Inv-loop : tie.InvT-loop
 Inv-loop text out₀ at i₀ out i = (i ≤ length text) × (length out ≡ length out₀) × (out ≡ written at (take i text) out₀)
@@ -22,8 +17,9 @@ loop-holds c = (search needs, refl, sym (written-none _ _))
 
 loop-again : tie.Need-loop-again Inv-loop μ-loop
 loop-again c =
-    let a = c .before .before .before .args in
-    let t = c .before .before .loop in (
+    let at-loop : tie.At-loop Inv-loop μ-loop = search needs in
+    let start : tie.Start Inv-loop μ-loop = search needs in let a = start .args in
+    let t = at-loop .loop in (
       search needs,
       simp length-set (t .inv .1),
       elements-turn (a .at) (t .i) (now (a .text)) (now (a .out)) (t .out) (search needs) (t .inv .2),
@@ -31,23 +27,11 @@ loop-again c =
 
 returns : tie.Need-returns Inv-loop μ-loop
 returns c =
-    let a = c .before .before .args in
+    let start : tie.Start Inv-loop μ-loop = search needs in let a = start .args in
     let t = c .before .loop in
     (refl, t .inv .2 ∙ ap (λ (u : List ℕ). written (a .at) u (now (a .out))) (take-all (t .i) (now (a .text)) (search needs)))
 
 pub put-text-spec : {M : Type 1} → statement M
 put-text-spec =
-    tie.close
-    (tie.spec
-    Inv-loop
-    μ-loop
-    loop-holds
-    (λ c. search needs)
-    (λ c. search needs)
-    (λ c. search needs)
-    (λ c. search needs)
-    (λ c. search needs)
-    loop-again
-    (λ c. search needs)
-    (λ c. search needs)
-    returns)
+    tie.close (tie.spec Inv-loop μ-loop loop-holds (λ c. search needs) (λ c. search needs) (λ c. search needs)
+    (λ c. search needs) (λ c. search needs) loop-again (λ c. search needs) (λ c. search needs) returns)

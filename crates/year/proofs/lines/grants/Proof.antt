@@ -1,8 +1,7 @@
 -- `grants` meets its contract. The loop goes over the words of the buffer.
-use Prim.Native.Nat.{_-_, _≤_, _<_}
+use Rattle.base.proofs.Prelude.{_-_, _≤_, needs}
 use Rattle.year.proofs.lines.grants.Statement.{statement}
 use Rattle.year.proofs.lines.grants.Tie as tie
-use borrow.Author.Needs.{needs}
 
 abbrev Inv-loop : tie.InvT-loop
 Inv-loop grants interties place₀ place = place ≤ 1536
@@ -12,19 +11,6 @@ abbrev μ-loop : tie.MeasureT-loop
 
 pub grants-spec : {M : Type 1} → statement M
 grants-spec =
-    tie.close
-    (tie.spec
-    Inv-loop
-    μ-loop
-    (λ c. search needs)
-    (λ c. search needs)
-    (λ c. search needs)
-    (λ c. search needs)
-    (λ c. search needs)
-    (λ c. search needs)
-    (λ c κs. search needs)
-    (λ c. search needs)
-    (λ c. search needs)
-    (λ c. search needs)
-    (λ c. search needs)
-    (λ c. search needs))
+    tie.close (tie.spec Inv-loop μ-loop (λ c. search needs) (λ c. search needs) (λ c. search needs)
+    (λ c. search needs) (λ c. search needs) (λ c. search needs) (λ c κs. search needs) (λ c. search needs)
+    (λ c. search needs) (λ c. search needs) (λ c. search needs) (λ c. search needs))

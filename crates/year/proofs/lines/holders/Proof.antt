@@ -1,8 +1,7 @@
 -- `holders` meets its contract. The loop ends with the last holder.
-use Prim.Native.Nat.{_-_, _≤_, _<_}
+use Rattle.base.proofs.Prelude.{_-_, _≤_, needs}
 use Rattle.year.proofs.lines.holders.Statement.{statement}
 use Rattle.year.proofs.lines.holders.Tie as tie
-use borrow.Author.Needs.{needs}
 
 abbrev Inv-loop : tie.InvT-loop
 Inv-loop state calls answers count end holder₀ holder = holder ≤ end
@@ -12,15 +11,5 @@ abbrev μ-loop : tie.MeasureT-loop
 
 pub holders-spec : {M : Type 1} → statement M
 holders-spec =
-    tie.close
-    (tie.spec
-    Inv-loop
-    μ-loop
-    (λ c κs. search needs)
-    (λ c. search needs)
-    (λ c κs. search needs)
-    (λ c. search needs)
-    (λ c. search needs)
-    (λ c. search needs)
-    (λ c. search needs)
-    (λ c. search needs))
+    tie.close (tie.spec Inv-loop μ-loop (λ c κs. search needs) (λ c. search needs) (λ c κs. search needs)
+    (λ c. search needs) (λ c. search needs) (λ c. search needs) (λ c. search needs) (λ c. search needs))

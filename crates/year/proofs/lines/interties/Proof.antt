@@ -1,8 +1,7 @@
 -- `interties` meets its contract. The loop ends with the last intertie.
-use Prim.Native.Nat.{_-_, _≤_, _<_}
+use Rattle.base.proofs.Prelude.{_-_, _≤_, needs}
 use Rattle.year.proofs.lines.interties.Statement.{statement}
 use Rattle.year.proofs.lines.interties.Tie as tie
-use borrow.Author.Needs.{needs}
 
 abbrev Inv-loop : tie.InvT-loop
 Inv-loop state count intertie₀ intertie = intertie ≤ count
@@ -12,15 +11,5 @@ abbrev μ-loop : tie.MeasureT-loop
 
 pub interties-spec : {M : Type 1} → statement M
 interties-spec =
-    tie.close
-    (tie.spec
-    Inv-loop
-    μ-loop
-    (λ c κs. search needs)
-    (λ c. search needs)
-    (λ c κs. search needs)
-    (λ c. search needs)
-    (λ c. search needs)
-    (λ c. search needs)
-    (λ c. search needs)
-    (λ c. search needs))
+    tie.close (tie.spec Inv-loop μ-loop (λ c κs. search needs) (λ c. search needs) (λ c κs. search needs)
+    (λ c. search needs) (λ c. search needs) (λ c. search needs) (λ c. search needs) (λ c. search needs))

@@ -1,15 +1,10 @@
 -- `run_all` meets its contract. Each stretch has a call at least.
-use Prim.Native.Nat.{_-_, _≤_}
-use mathlib.Core.Path.{_≡_}
+use Rattle.base.proofs.Prelude.{_-_, _≤_, _≡_, arith, length, now, needs}
 use mathlib.Core.Bool.{false≢true}
-use native.Mathlib.Omega.{arith}
-use lib.ListN.{length}
-use denote.Ref.{now}
 use Rattle.year.specs.Year.{YearRan}
 use Rattle.year.proofs.StretchLaws.{stretch-ran, ran-true, year-none, year-all}
 use Rattle.year.proofs.running.run_all.Statement.{statement}
 use Rattle.year.proofs.running.run_all.Tie as tie
-use borrow.Author.Needs.{needs}
 
 abbrev Inv-loop : tie.InvT-loop
 Inv-loop calls count state₀ answers₀ first₀ state answers first =
@@ -41,30 +36,8 @@ returns-2 c = λ e. year-all (now (c .before .before .before .before .before .ar
 
 pub run-all-spec : {M : Type 1} → statement M
 run-all-spec =
-    tie.close
-    (tie.spec
-    Inv-loop
-    μ-loop
-    loop-holds
-    (λ c κs. search needs)
-    (λ c. search needs)
-    (λ c. search needs)
-    (λ c. search needs)
-    (λ c. search needs)
-    (λ c. search needs)
-    (λ c. search needs)
-    (λ c. search needs)
-    (λ c. search needs)
-    (λ c. search needs)
-    (λ c. search needs)
-    (λ c. search needs)
-    (λ c. search needs)
-    (λ c κs. search needs)
-    (λ c. search needs)
-    (λ c. search needs)
-    returns
-    (λ c. search needs)
-    loop-again
-    (λ c. search needs)
-    (λ c. search needs)
-    returns-2)
+    tie.close (tie.spec Inv-loop μ-loop loop-holds (λ c κs. search needs) (λ c. search needs) (λ c. search needs)
+    (λ c. search needs) (λ c. search needs) (λ c. search needs) (λ c. search needs) (λ c. search needs)
+    (λ c. search needs) (λ c. search needs) (λ c. search needs) (λ c. search needs) (λ c. search needs)
+    (λ c κs. search needs) (λ c. search needs) (λ c. search needs) returns (λ c. search needs) loop-again
+    (λ c. search needs) (λ c. search needs) returns-2)

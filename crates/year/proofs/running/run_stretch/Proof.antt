@@ -1,8 +1,7 @@
 -- `run_stretch` meets its contract: what is printed of a stretch changes none of its words.
+use Rattle.base.proofs.Prelude.{now, needs}
 use mathlib.Core.Bool.{false≢true}
-use denote.Ref.{now}
 use Rattle.year.proofs.StretchLaws.{was-run}
-use borrow.Author.Needs.{needs}
 use Rattle.year.proofs.running.run_stretch.Statement.{statement}
 use Rattle.year.proofs.running.run_stretch.Tie as tie
 
@@ -17,20 +16,6 @@ returns-3 c = λ e. was-run (now (c .before .before .before .before .before .bef
 
 pub run-stretch-spec : {M : Type 1} → statement M
 run-stretch-spec =
-    tie.close
-    (tie.spec
-    (λ c. search needs)
-    (λ c κs. search needs)
-    (λ c. search needs)
-    (λ c. search needs)
-    returns
-    (λ c κs. search needs)
-    (λ c. search needs)
-    (λ c. search needs)
-    returns-2
-    (λ c κs. search needs)
-    (λ c. search needs)
-    (λ c κs. search needs)
-    (λ c. search needs)
-    (λ c. search needs)
-    returns-3)
+    tie.close (tie.spec (λ c. search needs) (λ c κs. search needs) (λ c. search needs) (λ c. search needs) returns
+    (λ c κs. search needs) (λ c. search needs) (λ c. search needs) returns-2 (λ c κs. search needs)
+    (λ c. search needs) (λ c κs. search needs) (λ c. search needs) (λ c. search needs) returns-3)

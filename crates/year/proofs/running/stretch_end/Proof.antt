@@ -1,10 +1,8 @@
 -- `stretch_end` meets its contract. No call that the loop has passed is a closing.
-use Prim.Native.Nat.{_-_, _≤_, _<_}
-use denote.Ref.{now}
+use Rattle.base.proofs.Prelude.{_-_, _≤_, _<_, now, needs}
 use Rattle.year.proofs.running.stretch_end.Statement.{statement}
 use Rattle.year.proofs.running.stretch_end.Tie as tie
 use Rattle.year.proofs.StretchLaws.{NoneCloses, none-yet, none-more, one-closes}
-use borrow.Author.Needs.{needs}
 
 abbrev Inv-loop : tie.InvT-loop
 Inv-loop calls first count n₀ n =
@@ -27,17 +25,5 @@ returns-2 c = (search needs, search needs, one-closes (now (c .before .before .b
 
 pub stretch-end-spec : {M : Type 1} → statement M
 stretch-end-spec =
-    tie.close
-    (tie.spec
-    Inv-loop
-    μ-loop
-    loop-holds
-    (λ c. search needs)
-    (λ c. search needs)
-    (λ c. search needs)
-    (λ c. search needs)
-    returns
-    (λ c. search needs)
-    loop-again
-    (λ c. search needs)
-    returns-2)
+    tie.close (tie.spec Inv-loop μ-loop loop-holds (λ c. search needs) (λ c. search needs) (λ c. search needs)
+    (λ c. search needs) returns (λ c. search needs) loop-again (λ c. search needs) returns-2)
