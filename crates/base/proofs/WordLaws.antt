@@ -1,15 +1,14 @@
--- Laws of `tab` and `fill`: their lengths, and what stands at a place inside and outside.
+-- Laws of `tab` and `fill`: their lengths, what stands at a place inside and outside, and loops that fill.
 use Prim.Native.Nat.{ℕ, zero, suc, _+_, _-_, _≤_, _<_}
 use mathlib.Core.Path.{_≡_, refl, sym, ap, _∙_}
-use mathlib.Core.Logic.{_≢_}
+use mathlib.Core.Logic.{_≢_, ⊎-elim}
 use mathlib.Core.List.{List, [], _∷_, _++_}
-use mathlib.Core.Logic.{⊎-elim}
-use native.Mathlib.Nat.{le-step, lt-suc-self, not-suc-le-zero, le-of-suc-le-suc, lt-irrefl}
+use native.Mathlib.Nat.{le-step, lt-suc-self, not-suc-le-zero, le-of-suc-le-suc, le-refl}
 use native.Mathlib.Numerals.{add-one}
 use native.Mathlib.Omega.{arith}
 use native.Mathlib.Decide.{decLt}
-use lib.ListN.{length, getD, set, drop, length-set, length-append, length-drop, List·getD-append}
-use lib.Seq.{ext-getD, getD-set-same, getD-set-other, getD-append-add, getD-drop}
+use lib.ListN.{length, set, take, drop, replicate, length-set, length-append, length-drop, length-replicate, getD-replicate, List·getD-append}
+use lib.Seq.{ext-getD, getD-set-same, getD-set-other, getD-append-add, getD-drop, getD-take, length-take-le}
 use Rattle.base.specs.Words.{at, tab, fill}
 use Rattle.base.proofs.SumLaws.{below-suc}
 
@@ -96,9 +95,35 @@ tab-at l =
     ext-getD 0 (tab (length l) (at l)) l (length-tab (length l) (at l))
     (λ i h. at-tab (length l) (at l) i (omega (arith, length-tab (length l) (at l))))
 
--- a turn of a loop that fills: the next word is stored
+-- the first n words of a list
+pub take-tab : (n : ℕ) (l : List ℕ) → n ≤ length l → take n l ≡ tab n (at l)
+take-tab n l h =
+    let len : length (take n l) ≡ n = length-take-le n l h in
+    ext-getD 0 (take n l) (tab n (at l)) (len ∙ sym (length-tab n (at l)))
+    (λ i m.
+    let k : i < n = omega arith in
+    getD-take n l i 0 k ∙ sym (at-tab n (at l) i k))
+
+-- the first places of a fresh array are a table of its one word
+pub take-replicate : (n size v : ℕ) → n ≤ size → take n (replicate size v) ≡ tab n (λ i. v)
+take-replicate n size v h =
+    let long : length (take n (replicate size v)) ≡ n = length-take-le n (replicate size v) (omega (arith, length-replicate size v)) in
+    ext-getD 0 (take n (replicate size v)) (tab n (λ i. v)) (long ∙ sym (length-tab n (λ i. v)))
+    (λ i l.
+    let m : i < n = omega arith in
+    getD-take n (replicate size v) i 0 m ∙ getD-replicate size i v 0 (omega arith) ∙ sym (at-tab n (λ i. v) i m))
+
+-- a loop that fills: the place of this turn is as it was, the next word is stored, and the end
+pub fill-place : (n : ℕ) (f : ℕ → ℕ) (l g : List ℕ) → g ≡ fill n f l → at g n ≡ at l n
+fill-place n f l g e = rw e (at-fill-past n f l n (le-refl n))
+
 pub fill-turn : (n : ℕ) (f : ℕ → ℕ) (l g : List ℕ) (x : ℕ) → g ≡ fill n f l → x ≡ f n → set g n x ≡ fill (n + 1) f l
 fill-turn n f l g x e h = rw (e, h) (sym (fill-more n f l))
+
+pub fill-done : (n m : ℕ) (f : ℕ → ℕ) (l g : List ℕ) → g ≡ fill n f l → n ≤ m → m ≤ n → g ≡ fill m f l
+fill-done n m f l g e a b =
+    let same : n ≡ m = omega arith in
+    rw (← same) e
 
 -- filling the first places is putting the words in front of the rest
 pub fill-front : (g l : List ℕ) → length g ≤ length l → fill (length g) (at g) l ≡ g ++ drop (length g) l

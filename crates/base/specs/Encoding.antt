@@ -1,4 +1,5 @@
--- A call of the year and its answer as words of a list: how many they are, and the kinds of call. Each is named here once; src/encoding.rt has the same.
+-- A call of the year and its answer as words of a list: how many they are, and the kinds of call. Each is named
+-- here once; src/encoding.rt has the same.
 use Prim.Native.Nat.{ℕ}
 
 -- the words of a call: its kind, three numbers, and the low and the high word of its kW

@@ -1,13 +1,15 @@
 -- The limits of the rules, each named here once; src/limits.rt has the same numbers for the code.
 use Prim.Native.Nat.{ℕ}
 
--- the interties and the holders of a sheet, at least 1 of each, and its records
+-- the interties of a sheet, at least 1
 abbrev pub mostInterties : ℕ
 mostInterties = 48
 
+-- the holders of a sheet, at least 1
 abbrev pub mostHolders : ℕ
 mostHolders = 32
 
+-- the records of a sheet
 abbrev pub mostRecords : ℕ
 mostRecords = 1024
 
@@ -31,6 +33,10 @@ mostClaimKw = 20480000000
 abbrev pub mostTotalKw : ℕ
 mostTotalKw = 960000000
 
+-- what a holder holds when Step 5 begins, and the T of Step 5: existing contracts, Pre-RA and New Use of all interties
+abbrev pub mostHeldKw : ℕ
+mostHeldKw = 2880000000
+
 -- the rank of a New Use commitment, at least 1
 abbrev pub mostRank : ℕ
 mostRank = 255
@@ -43,22 +49,26 @@ mostYears = 30
 abbrev pub mostTakings : ℕ
 mostTakings = 2
 
+-- the days of a week
 abbrev pub weekDays : ℕ
 weekDays = 7
 
--- the words that a state and a grants buffer have at least
+-- the words that a state has at least
 abbrev pub stateWords : ℕ
 stateWords = 16000
 
+-- the words that a grants buffer has at least
 abbrev pub grantsWords : ℕ
 grantsWords = 1536
 
--- the bytes of a sheet: those of I, H and K, those of a record, and those of the longest sheet
+-- the bytes of I, H and K, with which a sheet starts
 abbrev pub sheetHeaderBytes : ℕ
 sheetHeaderBytes = 12
 
+-- the bytes of a record
 abbrev pub recordBytes : ℕ
 recordBytes = 8
 
+-- the bytes of the longest sheet
 abbrev pub mostSheetBytes : ℕ
 mostSheetBytes = 8204

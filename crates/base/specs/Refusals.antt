@@ -1,4 +1,5 @@
--- The numbers of the refusals, each named here once; src/refusals.rt has the same. A call is refused with the lowest that applies, and 0 is no refusal.
+-- The numbers of the refusals, each named here once; src/refusals.rt has the same. A call is refused
+-- with the lowest that applies, and 0 is no refusal.
 use Prim.Native.Nat.{ℕ}
 
 -- a sheet under 12 bytes, K over 1,024, or a length that is not 12 + 8·K

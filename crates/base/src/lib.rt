@@ -1,5 +1,5 @@
 // What every crate stands on: each number and name of the rules in its one home (limits, refusals, kinds of record, stages,
-// words of a call), the answer of a call, and choices, sums and lists for the specifications.
+// words of a call), the answer of a call, numbers and lists of them, and choices and sums for the specifications.
 pub mod encoding;
 pub mod kinds;
 pub mod limits;
@@ -31,6 +31,7 @@ impl Answer {
         }
     }
 
+    // Number 0, with the kW and the passes.
     pub fn granted(kw: u64, passes: u64) -> Answer
         ensures { λ r. ⌜ r ≡ granted kw passes ⌝ }
     {

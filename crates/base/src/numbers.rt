@@ -1,4 +1,4 @@
-// Two numbers made one, for every two.
+// The smaller of two numbers and the difference that stops at 0, for every two.
 ghost use mathlib.Core.Path.{_≡_};
 ghost use Prim.Native.Nat.{_-_, min};
 
