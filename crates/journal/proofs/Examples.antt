@@ -9,7 +9,7 @@ use Rattle.text.specs.Pieces.{fields}
 use Rattle.text.specs.Written.{written}
 use Rattle.journal.specs.Words.{pieces, words}
 use Rattle.journal.specs.Calls.{kindOf, takes, numbersOf, callWith, callOr, callOf, lineOf}
-use Rattle.journal.specs.Journals.{answerFrom, answerOf, callWords, callsLeft}
+use Rattle.journal.specs.Journals.{answerFrom, answerOf, encodedCalls, callsLeft}
 use Rattle.journal.specs.declared.Journal.{Journal}
 
 abbrev answer : (fault line count : ℕ) → Journal
@@ -39,5 +39,5 @@ pub record Read : Type 0 where
   pub left : callsLeft (ascii "close\nclose\nclose\n") (replicate 17 7) ≡ replicate 17 7
 
 pub journals : Read
-unfolding allDigits value numberOf fields written pieces words same kindOf takes numbersOf callWith callOr callOf lineOf answerFrom callWords callsLeft
+unfolding allDigits value numberOf fields written pieces words same kindOf takes numbersOf callWith callOr callOf lineOf answerFrom encodedCalls callsLeft
 journals = record { six-calls = refl; counted = refl; empty = refl; no-name = refl; late-hash = refl; too-few = refl; too-many = refl; no-number = refl; most = refl; over = refl; no-room = refl; left = refl }

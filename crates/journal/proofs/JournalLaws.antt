@@ -16,7 +16,7 @@ use Rattle.text.specs.Written.{written}
 use Rattle.text.proofs.PieceLaws.{by-test, before-le, piecesAfter, fields-is}
 use Rattle.text.proofs.WrittenLaws.{written-none, written-more}
 use Rattle.journal.specs.Calls.{lineOf}
-use Rattle.journal.specs.Journals.{linesOf, callsIn, faultIn, answerFrom, answerOf, wordsIn, callWords, callsLeft}
+use Rattle.journal.specs.Journals.{linesOf, callsIn, faultIn, answerFrom, answerOf, wordsIn, encodedCalls, callsLeft}
 use Rattle.journal.specs.declared.Journal.{Journal}
 use Rattle.journal.specs.declared.calls.Call.{Call}
 use Rattle.journal.specs.declared.calls.Line.{Line}
@@ -58,13 +58,6 @@ call-put line call place l good =
 -- a line without a call
 pub none-put : (line : Line) (place : ℕ) (l : List ℕ) → wordsIn line ≡ [] → (place ≡ place + length (wordsIn line)) × (l ≡ written place (wordsIn line) l)
 none-put line place l none = (omega (arith, ap length none), sym (ap (λ (t : List ℕ). written place t l) none ∙ written-none place l))
-
--- where the line that starts at a place ends
-pub line-ends : (text : List ℕ) (from size : ℕ) → from ≤ length text → size ≡ before 10 (take (length text - from) (drop from text)) →
-    (from + size ≡ from + before 10 (drop from text)) × (from ≤ from + size) × (from + size ≤ length text)
-line-ends text from size inside s =
-    let is : size ≡ before 10 (drop from text) = s ∙ ap (before 10) (take-all (length text - from) (drop from text) (omega (arith, length-drop from text))) in
-    (omega arith, omega arith, omega (arith, before-le 10 (drop from text), length-drop from text))
 
 -- the next line of a text from a place on, and those after it
 module _ (text : List ℕ) (from end : ℕ) (inside : from ≤ length text) (e : end ≡ from + before 10 (drop from text)) where
@@ -140,48 +133,48 @@ module _ (room : ℕ) (text : List ℕ) (at number count : ℕ) (whole : Journal
     check-turn more = goes (linesOf (drop (end + 1) text)) (lines-more text at end inside e more)
 
 -- the words of lines, line by line
-pub words-cons : (line : List ℕ) (others : List (List ℕ)) → callWords (line ∷ others) ≡ wordsIn (lineOf line) ++ callWords others
-unfolding callWords
+pub words-cons : (line : List ℕ) (others : List (List ℕ)) → encodedCalls (line ∷ others) ≡ wordsIn (lineOf line) ++ encodedCalls others
+unfolding encodedCalls
 words-cons line others = refl
 
-pub words-end : callWords [] ≡ []
-unfolding callWords
+pub words-end : encodedCalls [] ≡ []
+unfolding encodedCalls
 words-end = refl
 
 -- the loop of `put_calls`, at the line from a place of the text on
 module _ (text : List ℕ) (at place : ℕ) (whole entry now : List ℕ)
-    (fits : place + length (callWords (linesOf (drop at text))) ≤ length entry)
-    (so-far : written 0 whole entry ≡ written place (callWords (linesOf (drop at text))) now)
+    (fits : place + length (encodedCalls (linesOf (drop at text))) ≤ length entry)
+    (so-far : written 0 whole entry ≡ written place (encodedCalls (linesOf (drop at text))) now)
     (end : ℕ) (inside : at ≤ length text) (e : end ≡ at + before 10 (drop at text))
     (line : Line) (read : line ≡ lineOf (take (end - at) (drop at text))) where
-  here : (others : List (List ℕ)) → linesOf (drop at text) ≡ take (end - at) (drop at text) ∷ others → callWords (linesOf (drop at text)) ≡ wordsIn line ++ callWords others
+  here : (others : List (List ℕ)) → linesOf (drop at text) ≡ take (end - at) (drop at text) ∷ others → encodedCalls (linesOf (drop at text)) ≡ wordsIn line ++ encodedCalls others
   here others are =
-      ap callWords are ∙ words-cons (take (end - at) (drop at text)) others ∙ ap (λ (l : Line). wordsIn l ++ callWords others) (sym read)
+      ap encodedCalls are ∙ words-cons (take (end - at) (drop at text)) others ∙ ap (λ (l : Line). wordsIn l ++ encodedCalls others) (sym read)
 
   pub words-fit : place + length (wordsIn line) ≤ length entry
   words-fit =
       let rest : List (List ℕ) = piecesAfter 10 (drop at text) in
-      omega (arith, ap length (here rest (first-line text at end inside e)), length-append (wordsIn line) (callWords rest))
+      omega (arith, ap length (here rest (first-line text at end inside e)), length-append (wordsIn line) (encodedCalls rest))
 
   module _ (next : ℕ) (after : List ℕ) (n : next ≡ place + length (wordsIn line)) (put : after ≡ written place (wordsIn line) now) where
-    goes-on : (others : List (List ℕ)) → linesOf (drop at text) ≡ take (end - at) (drop at text) ∷ others → written 0 whole entry ≡ written next (callWords others) after
+    goes-on : (others : List (List ℕ)) → linesOf (drop at text) ≡ take (end - at) (drop at text) ∷ others → written 0 whole entry ≡ written next (encodedCalls others) after
     goes-on others are =
         so-far
         ∙ ap (λ (t : List ℕ). written place t now) (here others are)
-        ∙ sym (written-more place (wordsIn line) (callWords others) now)
-        ∙ ap (λ (k : ℕ). written k (callWords others) (written place (wordsIn line) now)) (sym n)
-        ∙ ap (written next (callWords others)) (sym put)
+        ∙ sym (written-more place (wordsIn line) (encodedCalls others) now)
+        ∙ ap (λ (k : ℕ). written k (encodedCalls others) (written place (wordsIn line) now)) (sym n)
+        ∙ ap (written next (encodedCalls others)) (sym put)
 
     pub put-ends : end ≡ length text → after ≡ written 0 whole entry
     put-ends last =
         sym (goes-on [] (lines-last text at end inside e last) ∙ ap (λ (t : List ℕ). written next t after) words-end ∙ written-none next after)
 
     pub put-turn : end ≢ length text →
-        (next + length (callWords (linesOf (drop (end + 1) text))) ≤ length entry)
-        × (written 0 whole entry ≡ written next (callWords (linesOf (drop (end + 1) text))) after)
+        (next + length (encodedCalls (linesOf (drop (end + 1) text))) ≤ length entry)
+        × (written 0 whole entry ≡ written next (encodedCalls (linesOf (drop (end + 1) text))) after)
     put-turn more =
         let rest : List (List ℕ) = linesOf (drop (end + 1) text) in (
-          omega (arith, fits, n, ap length (here rest (lines-more text at end inside e more)), length-append (wordsIn line) (callWords rest)),
+          omega (arith, fits, n, ap length (here rest (lines-more text at end inside e more)), length-append (wordsIn line) (encodedCalls rest)),
           goes-on rest (lines-more text at end inside e more),
         )
 
@@ -201,7 +194,7 @@ room-left room count (Faulty fault) h z = omega arith
 
 -- where no line has a fault, the calls are counted and have room
 pub answer-counts : (room number count : ℕ) (lines : List (List ℕ)) → count ≤ room → answerFrom room number count lines .fault ≡ 0 →
-    (6 * count + length (callWords lines) ≡ 6 * answerFrom room number count lines .count) × (answerFrom room number count lines .count ≤ room)
+    (6 * count + length (encodedCalls lines) ≡ 6 * answerFrom room number count lines .count) × (answerFrom room number count lines .count ≤ room)
 answer-counts room number count [] h z =
     let all : answerFrom room number count [] .count ≡ count = ap (λ (j : Journal). j .count) (answer-none room number count) in
     (omega (arith, ap length words-end), omega arith)
@@ -212,7 +205,7 @@ answer-counts room number count (line ∷ others) h z =
     let goes : answerFrom room number count (line ∷ others) ≡ answerFrom room (suc number) (count + callsIn (lineOf line)) others = answer-goes room number count line others _ refl none in
     let later = answer-counts room (suc number) (count + callsIn (lineOf line)) others (room-left room count (lineOf line) h none) (ap (λ (j : Journal). j .fault) (sym goes) ∙ z) in
     let same : answerFrom room number count (line ∷ others) .count ≡ answerFrom room (suc number) (count + callsIn (lineOf line)) others .count = ap (λ (j : Journal). j .count) goes in (
-      omega (arith, later .0, same, ap length (words-cons line others), length-append (wordsIn (lineOf line)) (callWords others), six-each (lineOf line)),
+      omega (arith, later .0, same, ap length (words-cons line others), length-append (wordsIn (lineOf line)) (encodedCalls others), six-each (lineOf line)),
       omega (arith, later .1, same),
     ))
     (λ t.
@@ -230,11 +223,11 @@ module _ (text calls : List ℕ) (answer : Journal) (is : answer ≡ answerOf te
   left-alone some = rw (number, ne-eqb (answer .fault) 0 some) refl
 
   module _ (none : answer .fault ≡ 0) where
-    pub calls-fit : length (callWords (linesOf text)) ≤ length calls
+    pub calls-fit : length (encodedCalls (linesOf text)) ≤ length calls
     calls-fit =
         let counts = answer-counts (length calls / 6) 1 0 (linesOf text) (omega arith) (number ∙ none) in
         omega (arith, counts .0, counts .1)
 
-    pub left-written : (l : List ℕ) → l ≡ written 0 (callWords (linesOf text)) calls → l ≡ callsLeft text calls
+    pub left-written : (l : List ℕ) → l ≡ written 0 (encodedCalls (linesOf text)) calls → l ≡ callsLeft text calls
     unfolding callsLeft
     left-written l put = put ∙ sym (rw (number, none) refl)

@@ -14,7 +14,8 @@ use Rattle.text.specs.declared.Number.the-variants.{Value, Over, Bad}
 use Rattle.text.proofs.ReadLaws.{number-empty}
 use Rattle.text.proofs.WrittenLaws.{written-none}
 use Rattle.journal.specs.Words.{words}
-use Rattle.journal.specs.Workers.{leading, figureOf, NextWord}
+use Rattle.journal.specs.Workers.Figures.{figureOf}
+use Rattle.journal.specs.Workers.Spans.{leading, NextWord}
 use Rattle.journal.specs.declared.calls.Figure.{Figure}
 use Rattle.journal.specs.declared.words.Span.{Span}
 use Rattle.journal.specs.Calls.{Numbers, stopped, inFront, numbersOf}

@@ -20,7 +20,7 @@ use Rattle.text.specs.Written.{written}
 use Rattle.text.proofs.WrittenLaws.{written-is}
 use Rattle.journal.specs.Words.{words}
 use Rattle.journal.specs.Calls.{kindOf, takes, Numbers, numbersOf, callWith, callOr, callOf, lineOf}
-use Rattle.journal.specs.Journals.{linesOf, answerOf, wordsIn, callWords, callsLeft}
+use Rattle.journal.specs.Journals.{linesOf, answerOf, wordsIn, encodedCalls, callsLeft}
 use Rattle.journal.specs.declared.calls.Call.{Call}
 use Rattle.journal.specs.declared.calls.Line.{Line}
 use Rattle.journal.specs.declared.calls.Line.the-variants.{Comment, Good, Faulty}
@@ -82,18 +82,18 @@ known-after (Good call) others known later (suc n) h =
     let six : 6 * suc n ≡ suc (suc (suc (suc (suc (suc (6 * n)))))) = omega arith in
     rw six (later n (omega arith))
 
-pub kinds-known : (lines : List (List ℕ)) (n : ℕ) → 6 * n < length (callWords lines) → (1 ≤ at (callWords lines) (6 * n)) × (at (callWords lines) (6 * n) ≤ 6)
+pub kinds-known : (lines : List (List ℕ)) (n : ℕ) → 6 * n < length (encodedCalls lines) → (1 ≤ at (encodedCalls lines) (6 * n)) × (at (encodedCalls lines) (6 * n) ≤ 6)
 kinds-known [] n h = absurd (omega (arith, ap length words-end))
 kinds-known (line ∷ others) n h =
     subst (λ (l : List ℕ). (1 ≤ at l (6 * n)) × (at l (6 * n) ≤ 6)) (sym (words-cons line others))
-    (known-after (lineOf line) (callWords others) (known-line line) (kinds-known others) n (omega (arith, h, ap length (words-cons line others))))
+    (known-after (lineOf line) (encodedCalls others) (known-line line) (kinds-known others) n (omega (arith, h, ap length (words-cons line others))))
 
 -- where no line has a fault
 module _ (text calls : List ℕ) (stands : answerOf text calls .fault ≡ 0) where
   abbrev count : ℕ
   count = answerOf text calls .count
 
-  pub six-words : length (callWords (linesOf text)) ≡ 6 * count
+  pub six-words : length (encodedCalls (linesOf text)) ≡ 6 * count
   six-words =
       let counts = answer-counts (length calls / 6) 1 0 (linesOf text) (omega arith) stands in
       omega (arith, counts .0)
@@ -102,23 +102,23 @@ module _ (text calls : List ℕ) (stands : answerOf text calls .fault ≡ 0) whe
   room-for = omega (arith, six-words, calls-fit text calls (answerOf text calls) refl stands)
 
   -- the first words are the calls', the later ones stay
-  pub calls-in-front : callsLeft text calls ≡ callWords (linesOf text) ++ drop (6 * count) calls
+  pub calls-in-front : callsLeft text calls ≡ encodedCalls (linesOf text) ++ drop (6 * count) calls
   calls-in-front =
-      let fit : length (callWords (linesOf text)) ≤ length calls = calls-fit text calls (answerOf text calls) refl stands in
-      let size : 0 + length (callWords (linesOf text)) ≡ 6 * count = omega (arith, six-words) in
-      sym (left-written text calls (answerOf text calls) refl stands (written 0 (callWords (linesOf text)) calls) refl)
-      ∙ written-is 0 (callWords (linesOf text)) calls (omega (arith, fit))
-      ∙ ap (λ (n : ℕ). callWords (linesOf text) ++ drop n calls) size
+      let fit : length (encodedCalls (linesOf text)) ≤ length calls = calls-fit text calls (answerOf text calls) refl stands in
+      let size : 0 + length (encodedCalls (linesOf text)) ≡ 6 * count = omega (arith, six-words) in
+      sym (left-written text calls (answerOf text calls) refl stands (written 0 (encodedCalls (linesOf text)) calls) refl)
+      ∙ written-is 0 (encodedCalls (linesOf text)) calls (omega (arith, fit))
+      ∙ ap (λ (n : ℕ). encodedCalls (linesOf text) ++ drop n calls) size
 
-  pub front-calls : take (6 * count) (callsLeft text calls) ≡ callWords (linesOf text)
-  front-calls = ap (take (6 * count)) calls-in-front ∙ take-at (callWords (linesOf text)) (drop (6 * count) calls) (6 * count) six-words
+  pub front-calls : take (6 * count) (callsLeft text calls) ≡ encodedCalls (linesOf text)
+  front-calls = ap (take (6 * count)) calls-in-front ∙ take-at (encodedCalls (linesOf text)) (drop (6 * count) calls) (6 * count) six-words
 
   -- each call's kind is one of the six, as `lists` asks of the words of a list of calls
-  pub kinds-accepted : allTo count (λ n. leb 1 (at (take 6 (drop (6 * n) (callWords (linesOf text)))) 0) && leb (at (take 6 (drop (6 * n) (callWords (linesOf text)))) 0) 6) ≡ true
+  pub kinds-accepted : allTo count (λ n. leb 1 (at (take 6 (drop (6 * n) (encodedCalls (linesOf text)))) 0) && leb (at (take 6 (drop (6 * n) (encodedCalls (linesOf text)))) 0) 6) ≡ true
   kinds-accepted =
       allTo-all count _
       (λ n l.
-      let k : ℕ = at (take 6 (drop (6 * n) (callWords (linesOf text)))) 0 in
-      let is : k ≡ at (callWords (linesOf text)) (6 * n) = getD-take 6 (drop (6 * n) (callWords (linesOf text))) 0 0 (omega arith) ∙ getD-drop (6 * n) (callWords (linesOf text)) 0 0 ∙ ap (at (callWords (linesOf text))) (add-zero (6 * n)) in
+      let k : ℕ = at (take 6 (drop (6 * n) (encodedCalls (linesOf text)))) 0 in
+      let is : k ≡ at (encodedCalls (linesOf text)) (6 * n) = getD-take 6 (drop (6 * n) (encodedCalls (linesOf text))) 0 0 (omega arith) ∙ getD-drop (6 * n) (encodedCalls (linesOf text)) 0 0 ∙ ap (at (encodedCalls (linesOf text))) (add-zero (6 * n)) in
       let known = kinds-known (linesOf text) n (omega (arith, six-words)) in
       and-both (leb 1 k) (leb k 6) (le-leb 1 k (omega (arith, is, known .0))) (le-leb k 6 (omega (arith, is, known .1))))

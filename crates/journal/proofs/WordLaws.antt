@@ -14,7 +14,7 @@ use Rattle.base.specs.Words.{at}
 use Rattle.base.proofs.ChoiceLaws.{pick-by}
 use Rattle.text.proofs.PieceLaws.{by-test}
 use Rattle.journal.specs.Words.{isBlank, pieces, nonEmpty, words}
-use Rattle.journal.specs.Workers.{class, leading}
+use Rattle.journal.specs.Workers.Spans.{class, leading}
 
 -- at most the length
 pub leading-le : (k : ℕ) (line : List ℕ) → leading k line ≤ length line

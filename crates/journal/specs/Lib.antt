@@ -1,4 +1,6 @@
+pub mod Faults
+pub mod Sizes
 pub mod Words
-pub mod Workers
 pub mod Calls
 pub mod Journals
+pub mod Workers

@@ -1,34 +1,3 @@
--- What the private functions answer.
-use Prim.Native.Nat.{ℕ, suc, _+_, _≤_}
-use mathlib.Core.Path.{_≡_}
-use mathlib.Core.List.{List, [], _∷_}
-use lib.Dec.{eqb}
-use lib.ListN.{length, drop}
-use Rattle.base.specs.Choice.{pick}
-use Rattle.text.specs.declared.Number.{Number}
-use Rattle.text.specs.declared.Number.the-variants.{Value, Over, Bad}
-use Rattle.journal.specs.Words.{isBlank}
-use Rattle.journal.specs.declared.calls.Figure.{Figure}
-use Rattle.journal.specs.declared.words.Span.{Span}
-
--- 1 for a blank, 0 for a byte of a word
-abbrev pub class : ℕ → ℕ
-class byte = pick (isBlank byte) 1 0
-
--- how many bytes of a class a line starts with
-unfoldable pub leading : ℕ → List ℕ → ℕ
-leading k [] = 0
-leading k (byte ∷ line) = pick (eqb (class byte) k) (suc (leading k line)) 0
-
--- a word as a number, or its fault
-abbrev pub figureOf : Number → Figure
-figureOf Bad = record { fault = 2; value = 0 }
-figureOf Over = record { fault = 3; value = 0 }
-figureOf (Value n) = record { fault = 0; value = n }
-
--- where the next word from a place on starts and ends; both at the end of the line where there is none
-pub record NextWord (line : List ℕ) (from : ℕ) (r : Span) : Type 0 where
-  pub start-is : r .start ≡ from + leading 1 (drop from line)
-  pub end-is : r .end ≡ r .start + leading 0 (drop (r .start) line)
-  pub in-order : r .start ≤ r .end
-  pub within : r .end ≤ length line
+-- What private functions ask and promise one another. No public contract cites these; a reader need not believe them.
+pub mod Figures
+pub mod Spans

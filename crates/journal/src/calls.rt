@@ -1,4 +1,5 @@
 // A line read as a call.
+use crate::faults;
 use crate::words::next_word;
 use base::encoding;
 use text::Number;
@@ -8,10 +9,9 @@ ghost use Rattle.text.specs.Decimal.{numberOf};
 ghost use Rattle.text.specs.Written.{written};
 ghost use Rattle.journal.specs.Words.{words};
 ghost use Rattle.journal.specs.Calls.{kindOf, takes, numbersOf, callWith, callOr, lineOf};
-ghost use Rattle.journal.specs.Workers.{figureOf};
+ghost use Rattle.journal.specs.Workers.Figures.{figureOf};
 
-// A call as read from a line: its kind (1 trade, 2 request, 3 close, 4 take, 5 move, 6 lock), three
-// numbers and its kW.
+// A call as read from a line: its kind (base::encoding), three numbers and its kW.
 pub struct Call {
     pub kind: u32,
     pub a: u32,
@@ -50,7 +50,7 @@ pub(super) fn read_line(line: &[u8]) -> Line
     }
     let kind = kind_of(&line[start..end]);
     if kind == 0 {
-        return Line::Faulty(1);
+        return Line::Faulty(faults::NOT_A_CALL);
     }
     read_call(kind, &line[end..])
 }
@@ -70,7 +70,8 @@ fn read_call(kind: u32, rest: &[u8]) -> Line
 // Reads so many numbers, and no word more. Answers the fault of the first word that is wrong.
 fn read_numbers(rest: &[u8], wanted: usize, numbers: &mut [u32; 4]) -> u32
     requires { ⌜ wanted ≤ 4 ⌝ }
-    ensures { λ r. ⌜ (r ≡ numbersOf wanted (words (now (rest .entry))) .fault) × (now (numbers .exit) ≡ written 0 (numbersOf wanted (words (now (rest .entry))) .values) (now (numbers .entry))) ⌝ }
+    ensures { λ r. let read = numbersOf wanted (words (now (rest .entry))) in
+        ⌜ (r ≡ read .fault) × (now (numbers .exit) ≡ written 0 (read .values) (now (numbers .entry))) ⌝ }
 {
     let mut at = 0;
     let mut k = 0;
@@ -94,7 +95,11 @@ fn last_fault(rest: &[u8]) -> u32
     ensures { λ r. ⌜ r ≡ numbersOf 0 (words (now (rest .entry))) .fault ⌝ }
 {
     let word = next_word(rest, 0);
-    if word.start == rest.len() { 0 } else { 2 }
+    if word.start == rest.len() {
+        0
+    } else {
+        faults::BAD_NUMBERS
+    }
 }
 
 // Reads a word as a number.
@@ -103,8 +108,14 @@ fn read_figure(word: &[u8]) -> Figure
 {
     match text::read_number(word) {
         Number::Value(value) => Figure { fault: 0, value },
-        Number::Over => Figure { fault: 3, value: 0 },
-        Number::Bad => Figure { fault: 2, value: 0 },
+        Number::Over => Figure {
+            fault: faults::OVER_32_BITS,
+            value: 0,
+        },
+        Number::Bad => Figure {
+            fault: faults::BAD_NUMBERS,
+            value: 0,
+        },
     }
 }
 

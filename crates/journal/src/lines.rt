@@ -2,13 +2,13 @@
 use crate::Journal;
 use crate::calls::Line;
 use crate::calls::read_line;
+use crate::faults;
+use base::encoding::CALL_WORDS;
 ghost use mathlib.Core.Path.{_≡_};
 ghost use Prim.Native.Nat.{_+_, _≤_};
-ghost use lib.ListN.{length, drop};
-ghost use Rattle.text.specs.Lines.{lineEnd};
-ghost use Rattle.text.specs.Pieces.{before};
+ghost use lib.ListN.{length};
 ghost use Rattle.text.specs.Written.{written};
-ghost use Rattle.journal.specs.Journals.{linesOf, callsIn, faultIn, answerFrom, wordsIn, callWords};
+ghost use Rattle.journal.specs.Journals.{linesOf, callsIn, faultIn, answerFrom, wordsIn, encodedCalls};
 
 // Finds the first line that can't be read, or counts the calls.
 pub(super) fn check(text: &[u8], room: usize) -> Journal
@@ -18,7 +18,7 @@ pub(super) fn check(text: &[u8], room: usize) -> Journal
     let mut number = 1;
     let mut count = 0;
     loop {
-        let end = line_end(text, at);
+        let end = text::piece_end(text, at, b'\n');
         let line = read_line(&text[at..end]);
         let fault = fault_in(line, count, room);
         if fault != 0 {
@@ -43,13 +43,13 @@ pub(super) fn check(text: &[u8], room: usize) -> Journal
 
 // Writes the words of the calls of all lines.
 pub(super) fn put_calls(text: &[u8], calls: &mut [u32])
-    requires { ⌜ length (callWords (linesOf (now text))) ≤ length (now calls) ⌝ }
-    ensures { λ _. ⌜ now (calls .exit) ≡ written 0 (callWords (linesOf (now (text .entry)))) (now (calls .entry)) ⌝ }
+    requires { ⌜ length (encodedCalls (linesOf (now text))) ≤ length (now calls) ⌝ }
+    ensures { λ _. ⌜ now (calls .exit) ≡ written 0 (encodedCalls (linesOf (now (text .entry)))) (now (calls .entry)) ⌝ }
 {
     let mut at = 0;
     let mut place = 0;
     loop {
-        let end = line_end(text, at);
+        let end = text::piece_end(text, at, b'\n');
         let line = read_line(&text[at..end]);
         place = put_line(line, calls, place);
         if end == text.len() {
@@ -59,21 +59,19 @@ pub(super) fn put_calls(text: &[u8], calls: &mut [u32])
     }
 }
 
-// Where the line that starts at a place ends.
-fn line_end(text: &[u8], at: usize) -> usize
-    requires { ⌜ at ≤ length (now text) ⌝ }
-    ensures { λ r. ⌜ (r ≡ at + before lineEnd (drop at (now (text .entry)))) × (at ≤ r) × (r ≤ length (now (text .entry))) ⌝ }
-{
-    at + text::before(&text[at..], b'\n')
-}
-
 // The fault of a line after so many calls.
 fn fault_in(line: Line, count: usize, room: usize) -> u32
     ensures { λ r. ⌜ r ≡ faultIn room count line ⌝ }
 {
     match line {
         Line::Comment => 0,
-        Line::Good(_) => { if count < room { 0 } else { 4 } }
+        Line::Good(_) => {
+            if count < room {
+                0
+            } else {
+                faults::TOO_MANY_CALLS
+            }
+        }
         Line::Faulty(fault) => fault,
     }
 }
@@ -92,7 +90,8 @@ fn calls_in(line: Line) -> usize
 // Writes the words of a line from a place on, and answers the place after them.
 fn put_line(line: Line, calls: &mut [u32], place: usize) -> usize
     requires { ⌜ place + length (wordsIn line) ≤ length (now calls) ⌝ }
-    ensures { λ r. ⌜ (r ≡ place + length (wordsIn line)) × (now (calls .exit) ≡ written place (wordsIn line) (now (calls .entry))) ⌝ }
+    ensures { λ r. let words = wordsIn line in
+        ⌜ (r ≡ place + length words) × (now (calls .exit) ≡ written place words (now (calls .entry))) ⌝ }
 {
     match line {
         Line::Comment => place,
@@ -103,7 +102,7 @@ fn put_line(line: Line, calls: &mut [u32], place: usize) -> usize
             calls[place + 3] = call.c;
             calls[place + 4] = call.kw;
             calls[place + 5] = 0;
-            place + 6
+            place + CALL_WORDS
         }
         Line::Faulty(_) => place,
     }

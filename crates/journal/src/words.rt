@@ -3,7 +3,7 @@ ghost use mathlib.Core.Path.{_≡_};
 ghost use Prim.Native.Nat.{_≤_};
 ghost use lib.ListN.{length};
 ghost use Rattle.journal.specs.Words.{isBlank};
-ghost use Rattle.journal.specs.Workers.{class, leading, NextWord};
+ghost use Rattle.journal.specs.Workers.Spans.{class, leading, NextWord};
 
 // The classes of bytes.
 const WORD: u32 = 0;
@@ -26,6 +26,7 @@ pub(super) fn next_word(line: &[u8], from: usize) -> Span
     Span { start, end }
 }
 
+// Whether a byte stands between words: a blank, a tab or a carriage return.
 fn is_blank(byte: u8) -> bool
     ensures { λ r. ⌜ r ≡ isBlank byte ⌝ }
 {

@@ -1,6 +1,6 @@
 -- `read_figure` meets its contract: a figure for each kind of number.
 use Rattle.base.proofs.Prelude.{sym, ap, _∙_, needs}
-use Rattle.journal.specs.Workers.{figureOf}
+use Rattle.journal.specs.Workers.Figures.{figureOf}
 use Rattle.journal.proofs.calls.read_figure.Statement.{statement}
 use Rattle.journal.proofs.calls.read_figure.Tie as tie
 use Rattle.text.proofs.read_number.Reads as read-number-reads

@@ -1,6 +1,6 @@
 -- `leading` meets its contract: the bytes read so far are of the class.
 use Rattle.base.proofs.Prelude.{_+_, _-_, _≤_, _≡_, sym, _∙_, arith, length, drop, now, needs}
-use Rattle.journal.specs.Workers.{leading}
+use Rattle.journal.specs.Workers.Spans.{leading}
 use Rattle.journal.proofs.WordLaws.{leading-found, leading-turn, leading-all}
 use Rattle.journal.proofs.words.leading.Statement.{statement}
 use Rattle.journal.proofs.words.leading.Tie as tie
