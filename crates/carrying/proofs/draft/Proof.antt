@@ -1,5 +1,5 @@
 -- `draft` meets its contract: the records that go on, then the locks.
-use Rattle.base.proofs.Prelude.{now}
+use Rattle.base.proofs.Prelude.{needs, now}
 use Rattle.carrying.specs.Lines.{nextLines}
 use Rattle.carrying.proofs.CarryLaws.{length-stands, state-stands, few-records}
 use Rattle.carrying.proofs.DraftLaws.{kept-bounded}

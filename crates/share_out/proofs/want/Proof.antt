@@ -1,4 +1,5 @@
 -- `want` meets its contract: each return is a case of the choice.
+use Rattle.base.proofs.Prelude.{needs}
 use borrow.Author.Tests.{not-true, not-false, lt-ltb, le-ltb}
 use Rattle.share_out.proofs.want.Statement.{statement}
 use Rattle.share_out.proofs.want.Tie as tie

@@ -31,10 +31,7 @@ shared-slice-read-place c =
     omega (arith, in-loop .loop-test .taken, after-used-ranks .used-ranks .ensures .within, after-shorter .shorter .ensures)
 
 keep-rank-requires : tie.Need-keep-rank-requires Inv-loop μ-loop
-keep-rank-requires c κs =
-    let at-loop : tie.At-loop Inv-loop μ-loop = search needs in
-    let after-place : tie.After-place Inv-loop μ-loop = search needs in
-    omega (arith, at-loop .loop .inv .kept .each (after-place .place .result))
+keep-rank-requires c κs = omega (arith, c .before .before .before .before .before .before .loop .inv .kept .each (c .before .before .place .result))
 
 loop-again : tie.Need-loop-again Inv-loop μ-loop
 loop-again c =

@@ -1,5 +1,5 @@
 -- `settle` meets its contract: rounds from the marks of any turn end as rounds from the start, and a round that excludes none is the last.
-use Rattle.base.proofs.Prelude.{_-_, sym, ap, _∙_, length, now, sumTo, at}
+use Rattle.base.proofs.Prelude.{needs, _-_, sym, ap, _∙_, length, now, sumTo, at}
 use Rattle.step_5.proofs.RoundLaws.{marks-first}
 use Rattle.step_5.proofs.LoopLaws.{Settling, settling-first, settling-next, settling-less, settling-last}
 use Rattle.step_5.proofs.settle.Statement.{statement}

@@ -1,5 +1,5 @@
 -- `sheet_reading::rules::most_kw` meets its contract: each arm of the match is the most of its kinds.
-use Rattle.base.proofs.Prelude.{arith}
+use Rattle.base.proofs.Prelude.{needs, arith}
 use Rattle.base.proofs.Rules.{tests}
 use Rattle.sheet_reading.proofs.RuleLaws.{most-outside}
 use Rattle.sheet_reading.proofs.rules.most_kw.Statement.{statement}

@@ -1,4 +1,5 @@
 -- `count_in` meets its contract, by its two returns.
+use Rattle.base.proofs.Prelude.{needs}
 use borrow.Author.Tests.{eq-eqb, ne-eqb}
 use Rattle.taking.proofs.Calendar.count_in.Statement.{statement}
 use Rattle.taking.proofs.Calendar.count_in.Tie as tie
