@@ -16,7 +16,8 @@ use Rattle.base.proofs.SumLaws.{sumTo-same}
 use Rattle.base.specs.Limits.{stateWords}
 use Rattle.sheet_records.specs.Sheet as Sheet
 use Rattle.sheet_records.specs.Refusal.{sheetRefusal}
-use Rattle.sheet_reading.specs.Tables.{kwTable, intertieTable, Filled, ReadSheet}
+use Rattle.sheet_reading.specs.Tables.{kwTable, intertieTable, ReadSheet}
+use Rattle.sheet_reading.specs.Workers.Adding.{Filled}
 use Rattle.sheet_reading.proofs.SheetLaws.{first-words, read-stands}
 use Rattle.sheet_reading.proofs.TableLaws.{limit-at, outside-at, load-share-at, existing-at, pre-ra-at, new-use-kw-at, new-use-intertie-at}
 use Rattle.steps.specs.Inputs.{Inputs, ofSheet}

@@ -14,8 +14,9 @@ use Rattle.base.proofs.WordLaws.{length-tab, at-tab}
 use Rattle.base.proofs.SumLaws.{sumTo-bound, sumTo-same, allTo-same}
 use Rattle.sheet_records.specs.Sheet.{interties, holders, count, kwAt, sumOver, howMany, isLimit, isLoadShare, isNewUse, limit, outside, existing, existingOn}
 use Rattle.sheet_records.specs.Refusal.{within, badLength, badSizes, recordsStand, oneLimitEach, oneLoadShareEach, noRankTwice, rulesHold, limitsHold, sheetRefusal}
-use Rattle.sheet_reading.specs.Tables.{slots, slotOf, limitSlot, outsideSlot, loadShareSlot, existingSlot, newUseSlot, table, countTable, kwTable, Filled, ReadSheet}
-use Rattle.sheet_reading.specs.Deciding.{tableRulesHold, tableExistingOn, tableLimitHolds, Modest}
+use Rattle.sheet_reading.specs.Tables.{slots, slotOf, limitSlot, outsideSlot, loadShareSlot, existingSlot, newUseSlot, table, countTable, kwTable, ReadSheet}
+use Rattle.sheet_reading.specs.Workers.Adding.{Filled}
+use Rattle.sheet_reading.specs.Workers.Deciding.{tableRulesHold, tableExistingOn, tableLimitHolds, Modest}
 use Rattle.sheet_records.proofs.BaseMore.{allTo-rows, le-or-lt}
 use Rattle.sheet_reading.proofs.TableLaws.{at-limit, at-load-share, at-new-use, limit-at, outside-at, existing-at}
 use Rattle.sheet_records.proofs.RefusalLaws.{sized}

@@ -13,7 +13,8 @@ use Rattle.base.proofs.WordLaws.{fill-turn, at-fill}
 use Rattle.sheet_records.specs.Key.{intertieOf}
 use Rattle.sheet_records.specs.Sheet.{interties, holders, count, keyAt, kwAt, sumOver}
 use Rattle.sheet_records.specs.Refusal.{recordStands, recordsStand}
-use Rattle.sheet_reading.specs.Tables.{slotOf, SlotsOf, slots, table, add}
+use Rattle.sheet_reading.specs.Tables.{slotOf, slots, table}
+use Rattle.sheet_reading.specs.Workers.Adding.{SlotsOf, add}
 use Rattle.sheet_records.proofs.ReadingLaws.{word-below}
 use Rattle.sheet_reading.proofs.TallyLaws.{zeros, tally, tally-bound, tally-all}
 use Rattle.sheet_reading.proofs.SlotLaws.{slot-of-below}

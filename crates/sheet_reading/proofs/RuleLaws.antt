@@ -10,7 +10,7 @@ use Rattle.base.specs.Choice.{pick}
 use Rattle.base.proofs.ChoiceLaws.{and-left, and-right, pick-by}
 use Rattle.sheet_records.specs.Key.{kindOf, holderOf, intertieOf, rankOf, yearsOf}
 use Rattle.sheet_records.specs.Refusal.{recordStands, within}
-use Rattle.sheet_reading.specs.Kinds.{namesHolder, namesIntertie, namesRank, namesYears, leastKw, mostKw}
+use Rattle.sheet_reading.specs.Workers.Kinds.{namesHolder, namesIntertie, namesRank, namesYears, leastOf, mostOf}
 use Rattle.sheet_records.proofs.BaseMore.{le-or-lt}
 
 -- one of two tests, as a third says
@@ -32,10 +32,10 @@ module _ (k : ℕ) where
   pub no-intertie-0 : k < 1 → false ≡ namesIntertie k
   no-intertie-0 l = let e : k ≡ 0 = omega arith in rw e refl
 
-  pub least-load-share : k ≡ 3 → 0 ≡ leastKw k
+  pub least-load-share : k ≡ 3 → 0 ≡ leastOf k
   least-load-share e = rw e refl
 
-  pub most-outside : 1 ≤ k → k ≤ 2 → 20_000_000 ≡ mostKw k
+  pub most-outside : 1 ≤ k → k ≤ 2 → 20_000_000 ≡ mostOf k
   most-outside l m = simp (ne-eqb k 3 (λ e. omega arith), le-leb 1 k l, le-leb k 6 (omega arith))
 
 module _ (I H kw k h i r y : ℕ) where
@@ -46,10 +46,10 @@ module _ (I H kw k h i r y : ℕ) where
       && pick (namesIntertie k) (ltb i I) (eqb i 0)
       && pick (namesRank k) (leb 1 r) (eqb r 0)
       && pick (namesYears k) (within 1 30 y) (eqb y 0)
-      && within (leastKw k) (mostKw k) kw
+      && within (leastOf k) (mostOf k) kw
 
   -- kinds 0 and 7 to 15
-  no-kind : (k ≡ 1 → ⊥) → (k ≡ 2 → ⊥) → (k ≡ 3 → ⊥) → within 4 5 k ≡ false → (k ≡ 6 → ⊥) → within (leastKw k) (mostKw k) kw ≡ false
+  no-kind : (k ≡ 1 → ⊥) → (k ≡ 2 → ⊥) → (k ≡ 3 → ⊥) → within 4 5 k ≡ false → (k ≡ 6 → ⊥) → within (leastOf k) (mostOf k) kw ≡ false
   no-kind n₁ n₂ n₃ n₄ n₆ =
       ⊎-elim
       (λ (l : k ≤ 0). let e : k ≡ 0 = omega arith in rw e (none-within kw))
@@ -87,7 +87,7 @@ module _ (I H kw k h i r y : ℕ) where
       → k ≡ kindOf key → h ≡ holderOf key → i ≡ intertieOf key → r ≡ rankOf key → y ≡ yearsOf key
       → n₁ ≡ namesHolder k → n₂ ≡ namesIntertie k → n₃ ≡ namesRank k → n₄ ≡ namesYears k
       → a ≡ pick n₁ (ltb h H) (eqb h 0) → b ≡ pick n₂ (ltb i I) (eqb i 0) → c ≡ pick n₃ (leb 1 r) (eqb r 0)
-      → d ≡ pick n₄ (within 1 30 y) (eqb y 0) → e ≡ within (leastKw k) (mostKw k) kw
+      → d ≡ pick n₄ (within 1 30 y) (eqb y 0) → e ≡ within (leastOf k) (mostOf k) kw
       → (a && b && c && d && e) ≡ recordStands I H key kw
   record-rule key n₁ n₂ n₃ n₄ a b c d e ek eh ei er ey e₁ e₂ e₃ e₄ ea eb ec ed ee =
       rw (ea, eb, ec, ed, ee, e₁, e₂, e₃, e₄) (by-its-kind key ek eh ei er ey)

@@ -14,8 +14,9 @@ use Rattle.base.proofs.SumLaws.{allTo-each}
 use Rattle.base.proofs.ChoiceLaws.{pick-by}
 use Rattle.sheet_records.specs.Key.{kindOf, holderOf, intertieOf, rankOf}
 use Rattle.sheet_records.specs.Sheet.{interties, holders, count, keyAt, kwAt, sumOver, howMany, kwOf, isLimit, isLoadShare, isNewUse, limit, outside, loadShare, existing, existingOn, preRa, newUseKw, newUseIntertie}
-use Rattle.sheet_records.specs.Refusal.{within, badLength, badSizes, ofHolder, noHolder, onIntertie, noIntertie, ranked, noRank, forYears, noYears, repeatable, recordStands, recordsStand, oneLimitEach, oneLoadShareEach, noRankTwice, rulesHold, limitsHold, sheetRefusal}
-use Rattle.sheet_reading.specs.Tables.{Filled, ReadSheet}
+use Rattle.sheet_records.specs.Refusal.{within, badLength, badSizes, someHolder, noHolder, someIntertie, noIntertie, someRank, noRank, someYears, noYears, repeatable, recordStands, recordsStand, oneLimitEach, oneLoadShareEach, noRankTwice, rulesHold, limitsHold, sheetRefusal}
+use Rattle.sheet_reading.specs.Tables.{ReadSheet}
+use Rattle.sheet_reading.specs.Workers.Adding.{Filled}
 use Rattle.sheet_records.proofs.BaseMore.{both, equal-two, equal-three}
 use Rattle.sheet_records.proofs.RefusalLaws.{whole, Sized, sized}
 use Rattle.sheet_records.proofs.OverLaws.{over-passing, over-all}
@@ -38,22 +39,22 @@ pub kept : (I H key kw : ℕ) → recordStands I H key kw ≡ true → Kept I ke
 unfolding recordStands
 kept I H key kw =
     let P : Bool → Type 0 = λ b. b ≡ true → Kept I key kw in
-    pick-by P (eqb (kindOf key) 1) _ _ (λ _ t. let p = two-of-five (noHolder key) (onIntertie I key) (noRank key) (noYears key) (leb kw 20_000_000) t in on-intertie (p .0) (leb-true kw 20_000_000 (p .1))) (λ _.
+    pick-by P (eqb (kindOf key) 1) _ _ (λ _ t. let p = two-of-five (noHolder key) (someIntertie I key) (noRank key) (noYears key) (leb kw 20_000_000) t in on-intertie (p .0) (leb-true kw 20_000_000 (p .1))) (λ _.
     pick-by P (eqb (kindOf key) 2) _ _ (λ _ t. repeated (noHolder key) (noRank key) (noYears key) t) (λ _.
-    pick-by P (eqb (kindOf key) 3) _ _ (λ k t. of-holder (eqb-true (kindOf key) 3 k) (two-of-five (ofHolder H key) (noIntertie key) (noRank key) (noYears key) (leb kw 100_000_000) t .1)) (λ _.
-    pick-by P (within 4 5 (kindOf key)) _ _ (λ _ t. repeated (ofHolder H key) (noRank key) (forYears key) t) (λ _.
-    pick-by P (eqb (kindOf key) 6) _ _ (λ _ t. repeated (ofHolder H key) (ranked key) (forYears key) t) (λ _ t.
+    pick-by P (eqb (kindOf key) 3) _ _ (λ k t. of-holder (eqb-true (kindOf key) 3 k) (two-of-five (someHolder H key) (noIntertie key) (noRank key) (noYears key) (leb kw 100_000_000) t .1)) (λ _.
+    pick-by P (within 4 5 (kindOf key)) _ _ (λ _ t. repeated (someHolder H key) (noRank key) (someYears key) t) (λ _.
+    pick-by P (eqb (kindOf key) 6) _ _ (λ _ t. repeated (someHolder H key) (someRank key) (someYears key) t) (λ _ t.
     absurd (false≢true t))))))
   where
     of-holder : kindOf key ≡ 3 → leb kw 100_000_000 ≡ true → Kept I key kw
     of-holder e l = record { modest = leb-true kw 100_000_000 l; small = λ n. absurd (n e); placed = λ n. absurd (n e) }
 
-    on-intertie : onIntertie I key ≡ true → kw ≤ 20_000_000 → Kept I key kw
+    on-intertie : someIntertie I key ≡ true → kw ≤ 20_000_000 → Kept I key kw
     on-intertie i l = record { modest = omega arith; small = λ _. l; placed = λ _. ltb-true (intertieOf key) I i }
 
-    repeated : (a c d : Bool) → a && onIntertie I key && c && d && repeatable kw ≡ true → Kept I key kw
+    repeated : (a c d : Bool) → a && someIntertie I key && c && d && repeatable kw ≡ true → Kept I key kw
     repeated a c d t =
-        let p = two-of-five a (onIntertie I key) c d (repeatable kw) t in
+        let p = two-of-five a (someIntertie I key) c d (repeatable kw) t in
         on-intertie (p .0) (leb-true kw 20_000_000 (both (leb 1 kw) (leb kw 20_000_000) .0 (p .1) .1))
 
 -- a sheet that no number refuses

@@ -4,12 +4,13 @@ use mathlib.Core.Path.{_≡_}
 use mathlib.Core.Bool.{_&&_}
 use mathlib.Core.List.{List}
 use native.Mathlib.Omega.{arith}
-use borrow.Author.Tests.{eqb-true, ltb-false, le-ltb}
-use lib.Dec.{eqb, ltb}
+use borrow.Author.Tests.{eqb-true, leb-false, lt-leb}
+use lib.Dec.{eqb, leb}
 use Rattle.base.specs.Words.{at}
 use Rattle.base.proofs.ChoiceLaws.{pick-by}
 use Rattle.sheet_records.specs.Key.{kindOf, holderOf, intertieOf, rankOf}
-use Rattle.sheet_reading.specs.Tables.{slot, slotOf, add, limitSlot, outsideSlot, loadShareSlot, existingSlot, preRaSlot, newUseSlot, slots}
+use Rattle.sheet_reading.specs.Tables.{slot, slotOf, limitSlot, outsideSlot, loadShareSlot, existingSlot, preRaSlot, newUseSlot, slots}
+use Rattle.sheet_reading.specs.Workers.Adding.{add}
 use Rattle.sheet_records.proofs.BaseMore.{test-by, equal-two, equal-three}
 
 -- each region of slots belongs to one kind
@@ -30,7 +31,7 @@ module _ (k h i r : ℕ) (bh : h < 64) (bi : i < 64) (br : r < 256) where
       pick-by P (eqb k 1) _ _ (λ t. let e = eqb-true k 1 t in omega arith) (λ _.
       pick-by P (eqb k 2) _ _ (λ t. let e = eqb-true k 2 t in omega arith) (λ _.
       pick-by P (eqb k 3) _ _ (λ t. let e = eqb-true k 3 t in omega arith) (λ _.
-      pick-by P (ltb 31 h) _ _ (λ _. omega arith) (λ f. let l = ltb-false 31 h f in
+      pick-by P (leb 32 h) _ _ (λ _. omega arith) (λ f. let l = leb-false 32 h f in
       pick-by P (eqb k 4) _ _ (λ t. let e = eqb-true k 4 t in omega arith) (λ _.
       pick-by P (eqb k 5) _ _ (λ t. let e = eqb-true k 5 t in omega arith) (λ _.
       pick-by P (eqb k 6) _ _ (λ t. let e = eqb-true k 6 t in omega arith) (λ _. omega arith)))))))
@@ -59,7 +60,7 @@ module _ (k h i r : ℕ) (bh : h < 64) (bi : i < 64) (br : r < 256) where
   existing-test h′ i′ b d =
       test-by (slot k h i r) (existingSlot h′ i′) _ _ (equal-three k 4 h h′ i i′) (
         λ e. let p = slotted .existings (omega arith) (omega arith) in (p .0, omega (arith, p .1), omega (arith, p .1)),
-        λ p. simp (p .0, p .1, p .2, le-ltb 31 h′ (omega arith)),
+        λ p. simp (p .0, p .1, p .2, lt-leb 32 h′ (omega arith)),
       )
 
   pub pre-ra-test : (h′ i′ : ℕ) → h′ < 32 → i′ < 64 → eqb (slot k h i r) (preRaSlot h′ i′) ≡ (eqb k 5 && eqb h h′ && eqb i i′)
@@ -67,7 +68,7 @@ module _ (k h i r : ℕ) (bh : h < 64) (bi : i < 64) (br : r < 256) where
   pre-ra-test h′ i′ b d =
       test-by (slot k h i r) (preRaSlot h′ i′) _ _ (equal-three k 5 h h′ i i′) (
         λ e. let p = slotted .pre-ras (omega arith) (omega arith) in (p .0, omega (arith, p .1), omega (arith, p .1)),
-        λ p. simp (p .0, p .1, p .2, le-ltb 31 h′ (omega arith)),
+        λ p. simp (p .0, p .1, p .2, lt-leb 32 h′ (omega arith)),
       )
 
   pub new-use-test : (h′ r′ : ℕ) → h′ < 32 → r′ < 256 → eqb (slot k h i r) (newUseSlot h′ r′) ≡ (eqb k 6 && eqb h h′ && eqb r r′)
@@ -75,7 +76,7 @@ module _ (k h i r : ℕ) (bh : h < 64) (bi : i < 64) (br : r < 256) where
   new-use-test h′ r′ b d =
       test-by (slot k h i r) (newUseSlot h′ r′) _ _ (equal-three k 6 h h′ r r′) (
         λ e. let p = slotted .new-uses (omega arith) (omega arith) in (p .0, omega (arith, p .1), omega (arith, p .1)),
-        λ p. simp (p .0, p .1, p .2, le-ltb 31 h′ (omega arith)),
+        λ p. simp (p .0, p .1, p .2, lt-leb 32 h′ (omega arith)),
       )
 
 pub slot-of-below : (key : ℕ) → slotOf key < slots

@@ -14,7 +14,7 @@ use Rattle.base.specs.Words.{at, tab}
 use Rattle.base.proofs.SumLaws.{sumTo-bound}
 use Rattle.base.proofs.WordLaws.{length-tab, at-tab}
 use Rattle.base.proofs.ChoiceLaws.{pick-by}
-use Rattle.sheet_reading.specs.Tables.{add}
+use Rattle.sheet_reading.specs.Workers.Adding.{add}
 
 -- an empty table
 abbrev pub zeros : ℕ → List ℕ

@@ -1,3 +1,2 @@
-pub mod Kinds
 pub mod Tables
-pub mod Deciding
+pub mod Workers

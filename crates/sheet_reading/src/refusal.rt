@@ -4,23 +4,33 @@ ghost use mathlib.Core.Bool.{false, _&&_, not};
 ghost use Prim.Native.Nat.{_+_, _≤_, _<_};
 ghost use lib.Dec.{leb, eqb};
 ghost use lib.ListN.{replicate};
+ghost use Rattle.base.specs.Limits.{mostInterties, mostHolders};
 ghost use Rattle.base.specs.Sums.{allTo};
 ghost use Rattle.base.specs.Words.{at};
+ghost use Rattle.sheet_records.specs.Key.{keyInterties};
 ghost use Rattle.sheet_records.specs.Refusal.{within, badLength, badSizes, sheetRefusal};
-ghost use Rattle.sheet_reading.specs.Tables.{slots, SlotsOf, countTable, kwTable, ReadSheet};
-ghost use Rattle.sheet_reading.specs.Deciding.{tableRulesHold, tableExistingOn, tableLimitHolds, Modest};
+ghost use Rattle.sheet_reading.specs.Tables.{slots, countTable, kwTable, ReadSheet};
+ghost use Rattle.sheet_reading.specs.Workers.Adding.{SlotsOf};
+ghost use Rattle.sheet_reading.specs.Workers.Deciding.{tableRulesHold, tableExistingOn, tableLimitHolds, Modest};
 use crate::rules;
 use crate::sizes;
 use crate::tables;
-use crate::tables::MOST_RECORDS;
 use crate::tables::SLOTS;
+use base::limits;
+use base::limits::MOST_RECORDS;
+use base::refusals;
 use sheet_records::words;
 
-// Number 2.
+const MOST_INTERTIES: u32 = limits::MOST_INTERTIES as u32;
+
+const MOST_HOLDERS: u32 = limits::MOST_HOLDERS as u32;
+
+// Refusal 2: I or H out of range.
 fn bad_sizes(interties: u32, holders: u32) -> bool
-    ensures { λ r. ⌜ r ≡ not (within 1 48 interties && within 1 32 holders) ⌝ }
+    ensures { λ r. ⌜ r ≡ not (within 1 mostInterties interties && within 1 mostHolders holders) ⌝ }
 {
-    !(((1 <= interties) & (interties <= 48)) & ((1 <= holders) & (holders <= 32)))
+    !(((1 <= interties) & (interties <= MOST_INTERTIES))
+        & ((1 <= holders) & (holders <= MOST_HOLDERS)))
 }
 
 // Whether each of the first n slots counts one record.
@@ -53,13 +63,13 @@ fn none_twice(counts: &[u16; SLOTS], from: usize, n: usize) -> bool
 
 // The existing contracts of all holders on an intertie.
 fn existing_on(kw: &[u64; SLOTS], holders: usize, intertie: usize) -> u64
-    requires { ⌜ (holders ≤ 32) × (intertie < 64) × Modest (now kw) ⌝ }
+    requires { ⌜ (holders ≤ mostHolders) × (intertie < keyInterties) × Modest (now kw) ⌝ }
     ensures { λ r. ⌜ r ≡ tableExistingOn (now (kw .entry)) holders intertie ⌝ }
 {
     let mut sum = 0;
     let mut h = 0;
     while h < holders {
-        sum += kw[tables::EXISTING + 64 * h + intertie];
+        sum += kw[tables::EXISTING + tables::HOLDER_INTERTIES * h + intertie];
         h += 1;
     }
     sum
@@ -67,14 +77,15 @@ fn existing_on(kw: &[u64; SLOTS], holders: usize, intertie: usize) -> u64
 
 // Whether outside rights and existing contracts fit into an intertie's limit.
 fn limit_holds(kw: &[u64; SLOTS], holders: usize, intertie: usize) -> bool
-    requires { ⌜ (holders ≤ 32) × (intertie < 64) × Modest (now kw) ⌝ }
+    requires { ⌜ (holders ≤ mostHolders) × (intertie < keyInterties) × Modest (now kw) ⌝ }
     ensures { λ r. ⌜ r ≡ tableLimitHolds (now (kw .entry)) holders intertie ⌝ }
 {
     kw[tables::OUTSIDE + intertie] + existing_on(kw, holders, intertie) <= kw[intertie]
 }
 
+// Whether they fit on each intertie.
 fn limits_hold(kw: &[u64; SLOTS], holders: usize, interties: usize) -> bool
-    requires { ⌜ (holders ≤ 32) × (interties ≤ 64) × Modest (now kw) ⌝ }
+    requires { ⌜ (holders ≤ mostHolders) × (interties ≤ keyInterties) × Modest (now kw) ⌝ }
     ensures { λ r. ⌜ r ≡ allTo interties (tableLimitHolds (now (kw .entry)) holders) ⌝ }
 {
     let mut hold = true;
@@ -88,17 +99,16 @@ fn limits_hold(kw: &[u64; SLOTS], holders: usize, interties: usize) -> bool
 
 // Whether the records keep the rules of the sheet, where `stand` says it of each by itself.
 fn rules_hold(stand: bool, counts: &[u16; SLOTS], holders: usize, interties: usize) -> bool
-    requires { ⌜ (holders ≤ 32) × (interties ≤ 64) ⌝ }
+    requires { ⌜ (holders ≤ mostHolders) × (interties ≤ keyInterties) ⌝ }
     ensures { λ r. ⌜ r ≡ tableRulesHold stand (now (counts .entry)) holders interties ⌝ }
 {
     stand
         & each_once(counts, interties)
         & none_twice(counts, tables::LOAD_SHARES, holders)
-        & none_twice(counts, tables::NEW_USE, 256 * holders)
+        & none_twice(counts, tables::NEW_USE, tables::HOLDER_RANKS * holders)
 }
 
-// Numbers 3 and 4 of a sheet that numbers 1 and 2 let pass, and its records in cleared tables. The
-// slots of the records are at hand.
+// Refusals 3 and 4 of a sheet that 1 and 2 let pass, and its records in cleared tables. The slots of the records are at hand.
 fn read_sized(
     sheet: &[u8],
     found: &[u32; MOST_RECORDS],
@@ -121,16 +131,16 @@ fn read_sized(
     let rules = rules_hold(stand, counts, holder_count, intertie_count);
     let limits = limits_hold(kw, holder_count, intertie_count);
     if !rules {
-        return 3;
+        return refusals::RECORDS;
     }
     if !limits {
-        return 4;
+        return refusals::ABOVE_LIMIT;
     }
     0
 }
 
-// The refusal of a sheet, 0 where it stands, and the tables of its records. The tables may have
-// any content before; where number 1 or 2 refuses the sheet they keep it.
+// The refusal of a sheet, 0 where it stands, and the tables of its records (docs/RULES.md, "The sheet"). The tables may have any
+// content before; where refusal 1 or 2 applies they keep it.
 pub fn read_sheet(
     sheet: &[u8],
     counts: &mut [u16; SLOTS],
@@ -141,10 +151,10 @@ pub fn read_sheet(
         r (now (counts .exit)) (now (kw .exit)) (now (interties .exit)) ⌝ }
 {
     if words::bad_length(sheet) {
-        return 1;
+        return refusals::SHEET_LENGTH;
     }
     if bad_sizes(sizes::intertie_count(sheet), sizes::holder_count(sheet)) {
-        return 2;
+        return refusals::SIZES;
     }
     let mut found = [0; MOST_RECORDS];
     tables::find_slots(sheet, &mut found);
@@ -155,15 +165,15 @@ pub fn read_sheet(
     read_sized(sheet, &found, counts, kw)
 }
 
-// The refusal of a sheet alone.
+// The refusal of a sheet alone, 0 where it stands (docs/RULES.md, "The sheet").
 pub fn sheet_refusal(sheet: &[u8]) -> u32
     ensures { λ r. ⌜ r ≡ sheetRefusal (now (sheet .entry)) ⌝ }
 {
     if words::bad_length(sheet) {
-        return 1;
+        return refusals::SHEET_LENGTH;
     }
     if bad_sizes(sizes::intertie_count(sheet), sizes::holder_count(sheet)) {
-        return 2;
+        return refusals::SIZES;
     }
     let mut found = [0; MOST_RECORDS];
     tables::find_slots(sheet, &mut found);

@@ -5,75 +5,80 @@ ghost use mathlib.Core.Bool.{false};
 ghost use lib.Dec.{eqb};
 ghost use Rattle.base.specs.Choice.{pick};
 ghost use Rattle.sheet_records.specs.Refusal.{within, badLength, recordStands, recordsStand};
-ghost use Rattle.sheet_reading.specs.Kinds.{namesHolder, namesIntertie, namesRank, namesYears, leastKw, mostKw};
+ghost use Rattle.sheet_reading.specs.Workers.Kinds.{namesHolder, namesIntertie, namesRank, namesYears, leastOf, mostOf};
 use crate::sizes;
+use base::kinds;
+use base::limits;
+use base::limits::MOST_YEARS;
 use sheet_records::cursor::Cursor;
 use sheet_records::cursor::Read;
 use sheet_records::key;
 use sheet_records::reader;
 
-const MOST_KW: u32 = 20_000_000;
+const MOST_KW: u32 = limits::MOST_KW as u32;
 
-const MOST_LOAD_SHARE: u32 = 100_000_000;
+const MOST_LOAD_SHARE: u32 = limits::MOST_LOAD_SHARE as u32;
 
-const MOST_YEARS: u32 = 30;
-
+// Whether a kind names a holder.
 fn names_holder(kind: u32) -> bool
     ensures { λ r. ⌜ r ≡ namesHolder kind ⌝ }
 {
     match kind {
-        3..=6 => true,
+        kinds::LOAD_SHARE..=kinds::NEW_USE_COMMITMENT => true,
         _ => false,
     }
 }
 
+// Whether it names an intertie.
 fn names_intertie(kind: u32) -> bool
     ensures { λ r. ⌜ r ≡ namesIntertie kind ⌝ }
 {
     match kind {
-        1..=2 => true,
-        4..=6 => true,
+        kinds::LIMIT..=kinds::OUTSIDE_RIGHT => true,
+        kinds::EXISTING_CONTRACT..=kinds::NEW_USE_COMMITMENT => true,
         _ => false,
     }
 }
 
+// Whether it names a rank.
 fn names_rank(kind: u32) -> bool
     ensures { λ r. ⌜ r ≡ namesRank kind ⌝ }
 {
     match kind {
-        6 => true,
+        kinds::NEW_USE_COMMITMENT => true,
         _ => false,
     }
 }
 
+// Whether it names years.
 fn names_years(kind: u32) -> bool
     ensures { λ r. ⌜ r ≡ namesYears kind ⌝ }
 {
     match kind {
-        4..=6 => true,
+        kinds::EXISTING_CONTRACT..=kinds::NEW_USE_COMMITMENT => true,
         _ => false,
     }
 }
 
 // The least quantity of a kind. Limits and load shares may be 0.
 fn least_kw(kind: u32) -> u32
-    ensures { λ r. ⌜ r ≡ leastKw kind ⌝ }
+    ensures { λ r. ⌜ r ≡ leastOf kind ⌝ }
 {
     match kind {
-        1 => 0,
-        3 => 0,
+        kinds::LIMIT => 0,
+        kinds::LOAD_SHARE => 0,
         _ => 1,
     }
 }
 
 // The most of it. Kinds 0 and 7 to 15 have none that stands.
 fn most_kw(kind: u32) -> u32
-    ensures { λ r. ⌜ r ≡ mostKw kind ⌝ }
+    ensures { λ r. ⌜ r ≡ mostOf kind ⌝ }
 {
     match kind {
-        1..=2 => MOST_KW,
-        3 => MOST_LOAD_SHARE,
-        4..=6 => MOST_KW,
+        kinds::LIMIT..=kinds::OUTSIDE_RIGHT => MOST_KW,
+        kinds::LOAD_SHARE => MOST_LOAD_SHARE,
+        kinds::EXISTING_CONTRACT..=kinds::NEW_USE_COMMITMENT => MOST_KW,
         _ => 0,
     }
 }
@@ -85,8 +90,9 @@ fn field_stands(named: bool, in_range: bool, field: u32) -> bool
     (named & in_range) | (!named & (field == 0))
 }
 
+// Whether a quantity stands for its kind.
 fn quantity_stands(kind: u32, kw: u32) -> bool
-    ensures { λ r. ⌜ r ≡ within (leastKw kind) (mostKw kind) kw ⌝ }
+    ensures { λ r. ⌜ r ≡ within (leastOf kind) (mostOf kind) kw ⌝ }
 {
     (least_kw(kind) <= kw) & (kw <= most_kw(kind))
 }

@@ -1,38 +1,48 @@
-// The tables that the records fill. A record's slot goes by its kind, holder, intertie and rank, and
-// is found for all of them before the first is added. Records of no kind, and those of kinds 4 to 6 with a holder from 32 up, share
-// the last slot.
+// The tables that the records fill. A record's slot goes by its kind, holder, intertie and rank, and is found for all of them
+// before the first is added. Records of no kind, and those of kinds 4 to 6 with a holder from 32 up, share the last slot.
 ghost use mathlib.Core.Path.{_≡_};
 ghost use mathlib.Core.Bool.{false};
 ghost use Prim.Native.Nat.{ℕ, _+_, _<_, _^_};
 ghost use lib.ListN.{length, replicate};
 ghost use Rattle.base.specs.Choice.{pick};
 ghost use Rattle.base.specs.Words.{at};
+ghost use Rattle.base.specs.Limits.{mostRecords};
+ghost use Rattle.sheet_records.specs.Key.{keyHolders, keyInterties, keyRanks};
 ghost use Rattle.sheet_records.specs.Refusal.{badLength};
-ghost use Rattle.sheet_reading.specs.Tables.{slot, slotOf, slots, add, SlotsOf, countTable, kwTable, intertieTable};
+ghost use Rattle.sheet_reading.specs.Tables.{slot, slotOf, slots, countTable, kwTable, intertieTable};
+ghost use Rattle.sheet_reading.specs.Workers.Adding.{add, SlotsOf};
 use crate::sizes;
+use base::kinds;
+use base::limits;
+use base::limits::MOST_RECORDS;
 use sheet_records::cursor::Cursor;
 use sheet_records::cursor::Read;
 use sheet_records::key;
 use sheet_records::reader;
 
-// How many slots a table has: 64 + 64 + 64 + 32 · 64 + 32 · 64 + 32 · 256, and one for the rest.
-pub const SLOTS: usize = 12481;
+// A holder's row has a slot for each intertie that a key can name, or for each rank.
+pub const HOLDER_INTERTIES: usize = key::INTERTIES;
 
-// Where the slots of a kind start, limits at 0; holders have rows of 64 interties, or of 256 ranks.
+pub const HOLDER_RANKS: usize = key::RANKS;
+
+// Where the slots of a kind start, limits at 0: those of interties, of holders, or of 32 holders' rows.
 pub const OUTSIDE: usize = 64;
 
 pub const LOAD_SHARES: usize = 128;
 
 pub const EXISTING: usize = 192;
 
-pub const PRE_RA: usize = 2240;
+pub const PRE_RA: usize = 2_240;
 
-pub const NEW_USE: usize = 4288;
+pub const NEW_USE: usize = 4_288;
 
-const OTHER: u32 = 12480;
+const MOST_HOLDERS: u32 = limits::MOST_HOLDERS as u32;
 
-// How many records a sheet may have.
-pub(crate) const MOST_RECORDS: usize = 1024;
+// The slot of the rest.
+const OTHER: u32 = 12_480;
+
+// How many slots a table has.
+pub const SLOTS: usize = 12_481;
 
 // A choice without a branch: both numbers are at hand.
 fn either(test: bool, one: u32, other: u32) -> u32
@@ -44,19 +54,41 @@ fn either(test: bool, one: u32, other: u32) -> u32
     other
 }
 
+// The slot of a record by its kind, holder, intertie and rank.
 fn slot(kind: u32, holder: u32, intertie: u32, rank: u32) -> u32
-    requires { ⌜ (holder < 64) × (intertie < 64) × (rank < 256) ⌝ }
+    requires { ⌜ (holder < keyHolders) × (intertie < keyInterties) × (rank < keyRanks) ⌝ }
     ensures { λ r. ⌜ r ≡ slot kind holder intertie rank ⌝ }
 {
-    let new_use = either(kind == 6, NEW_USE as u32 + 256 * holder + rank, OTHER);
-    let pre_ra = either(kind == 5, PRE_RA as u32 + 64 * holder + intertie, new_use);
-    let existing = either(kind == 4, EXISTING as u32 + 64 * holder + intertie, pre_ra);
-    let by_holder = either(31 < holder, OTHER, existing);
-    let load_share = either(kind == 3, LOAD_SHARES as u32 + holder, by_holder);
-    let outside = either(kind == 2, OUTSIDE as u32 + intertie, load_share);
-    either(kind == 1, intertie, outside)
+    let new_use = either(
+        kind == kinds::NEW_USE_COMMITMENT,
+        NEW_USE as u32 + HOLDER_RANKS as u32 * holder + rank,
+        OTHER,
+    );
+    let pre_ra = either(
+        kind == kinds::PRE_RA_COMMITMENT,
+        PRE_RA as u32 + HOLDER_INTERTIES as u32 * holder + intertie,
+        new_use,
+    );
+    let existing = either(
+        kind == kinds::EXISTING_CONTRACT,
+        EXISTING as u32 + HOLDER_INTERTIES as u32 * holder + intertie,
+        pre_ra,
+    );
+    let by_holder = either(MOST_HOLDERS <= holder, OTHER, existing);
+    let load_share = either(
+        kind == kinds::LOAD_SHARE,
+        LOAD_SHARES as u32 + holder,
+        by_holder,
+    );
+    let outside = either(
+        kind == kinds::OUTSIDE_RIGHT,
+        OUTSIDE as u32 + intertie,
+        load_share,
+    );
+    either(kind == kinds::LIMIT, intertie, outside)
 }
 
+// The slot of a key.
 fn slot_of(key: u32) -> u32
     ensures { λ r. ⌜ r ≡ slotOf key ⌝ }
 {
@@ -70,7 +102,7 @@ fn slot_of(key: u32) -> u32
 
 // The slot of each record.
 pub(crate) fn find_slots(sheet: &[u8], found: &mut [u32; MOST_RECORDS])
-    requires { ⌜ (badLength (now sheet) ≡ false) × (length (now found) ≡ 1024) ⌝ }
+    requires { ⌜ (badLength (now sheet) ≡ false) × (length (now found) ≡ mostRecords) ⌝ }
     ensures { λ _. ⌜ SlotsOf (now (sheet .entry)) (now (found .exit)) ⌝ }
 {
     let count = sizes::record_count(sheet) as usize;

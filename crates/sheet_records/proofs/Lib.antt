@@ -1,4 +1,5 @@
 pub mod BaseMore
+pub mod KeyLaws
 pub mod OverLaws
 pub mod RefusalLaws
 pub mod ReadingLaws

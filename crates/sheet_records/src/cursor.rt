@@ -2,7 +2,12 @@
 ghost use mathlib.Core.Path.{_≡_};
 ghost use Rattle.sheet_records.specs.Reading.{readOf};
 use crate::words;
+use crate::words::WORD_BYTES;
+use base::limits::MOST_RECORDS;
+use base::limits::RECORD_BYTES;
+use base::limits::SHEET_HEADER_BYTES;
 
+// A record: its key, and its quantity in kilowatts.
 pub struct Record {
     pub key: u32,
     pub kw: u32,
@@ -32,17 +37,20 @@ impl Cursor {
         ensures { λ r. ⌜ r ≡ readOf (now (sheet .entry)) count (self .at) ⌝ }
     {
         let place = self.at;
-        if 1024 < count {
+        if MOST_RECORDS < count {
             return Read::End;
         }
-        if sheet.len() != 12 + 8 * count {
+        if sheet.len() != SHEET_HEADER_BYTES + RECORD_BYTES * count {
             return Read::End;
         }
         if count <= place {
             return Read::End;
         }
-        let key = words::word(sheet, 12 + 4 * place);
-        let kw = words::word(sheet, 12 + 4 * count + 4 * place);
+        let key = words::word(sheet, SHEET_HEADER_BYTES + WORD_BYTES * place);
+        let kw = words::word(
+            sheet,
+            SHEET_HEADER_BYTES + WORD_BYTES * count + WORD_BYTES * place,
+        );
         Read::Next(Record { key, kw }, Cursor { at: place + 1 })
     }
 }

@@ -6,6 +6,7 @@ ghost use Rattle.sheet_records.specs.Reading.{readOf};
 use crate::cursor;
 use crate::cursor::Read;
 
+// A reader: the sheet, how many records it has, and the place of the next.
 pub struct Reader<'a> {
     pub sheet: &'a [u8],
     pub count: usize,

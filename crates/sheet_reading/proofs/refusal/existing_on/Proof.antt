@@ -1,7 +1,7 @@
 -- `sheet_reading::refusal::existing_on` meets its contract: after h turns the sum over the first h holders. The measure is the holders still to come.
 use Rattle.base.proofs.Prelude.{ℕ, _-_, _*_, _≤_, zero-le, _≡_, sym, arith, needs, at}
 use Rattle.sheet_reading.specs.Tables.{existingSlot}
-use Rattle.sheet_reading.specs.Deciding.{tableExistingOn}
+use Rattle.sheet_reading.specs.Workers.Deciding.{tableExistingOn}
 use Rattle.base.proofs.SumLaws.{sumTo-zero}
 use Rattle.sheet_records.proofs.BaseMore.{sum-more, sum-done, sum-room}
 use Rattle.sheet_reading.proofs.refusal.existing_on.Statement.{statement}

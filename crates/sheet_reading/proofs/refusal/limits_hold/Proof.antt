@@ -1,7 +1,7 @@
 -- `sheet_reading::refusal::limits_hold` meets its contract: after i turns the test of the first i interties. The measure is the interties still to come.
 use Rattle.base.proofs.Prelude.{_-_, _≤_, zero-le, _≡_, sym, needs, allTo}
 use Rattle.base.proofs.SumLaws.{allTo-zero, all-more, all-done}
-use Rattle.sheet_reading.specs.Deciding.{tableLimitHolds}
+use Rattle.sheet_reading.specs.Workers.Deciding.{tableLimitHolds}
 use Rattle.sheet_reading.proofs.refusal.limits_hold.Statement.{statement}
 use Rattle.sheet_reading.proofs.refusal.limits_hold.Tie as tie
 

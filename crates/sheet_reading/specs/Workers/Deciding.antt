@@ -1,10 +1,13 @@
--- Numbers 3 and 4 as they are decided from tables: of a sheet's own tables these are the rules of the sheet.
+-- Refusals 3 and 4 as they are decided from tables: of a sheet's own tables these are the rules of the sheet.
 use Prim.Native.Nat.{ℕ, _+_, _*_, _≤_}
 use mathlib.Core.Bool.{Bool, _&&_}
 use mathlib.Core.List.{List}
 use lib.Dec.{eqb, leb}
 use Rattle.base.specs.Sums.{sumTo, allTo}
 use Rattle.base.specs.Words.{at}
+use Rattle.base.specs.Limits.{mostRecords}
+use Rattle.sheet_records.specs.Key.{keyRanks}
+use Rattle.sheet_records.specs.Sheet.{mostWord}
 use Rattle.sheet_reading.specs.Tables.{limitSlot, outsideSlot, loadShareSlot, existingSlot, newUseSlot}
 
 -- the rules that count records, by a table of counts; stand says whether each record keeps its own
@@ -13,7 +16,7 @@ tableRulesHold stand counts H I =
     stand
     && allTo I (λ i. eqb (at counts (limitSlot i)) 1)
     && allTo H (λ h. leb (at counts (loadShareSlot h)) 1)
-    && allTo H (λ h. allTo 256 (λ r. leb (at counts (newUseSlot h r)) 1))
+    && allTo H (λ h. allTo keyRanks (λ r. leb (at counts (newUseSlot h r)) 1))
 
 -- E of all holders on intertie i, by a table of kilowatts
 abbrev pub tableExistingOn : List ℕ → ℕ → ℕ → ℕ
@@ -25,4 +28,4 @@ tableLimitHolds kw H i = leb (at kw (outsideSlot i) + tableExistingOn kw H i) (a
 
 -- a table of kilowatts that at most 1,024 records of 32 bits went into, so that sums of it fit 64 bits
 abbrev pub Modest : List ℕ → Type 0
-Modest kw = (j : ℕ) → at kw j ≤ 1024 * 4_294_967_295
+Modest kw = (j : ℕ) → at kw j ≤ mostRecords * mostWord
