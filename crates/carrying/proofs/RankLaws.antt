@@ -9,7 +9,7 @@ use lib.ListN.{length}
 use Rattle.base.specs.Choice.{pick}
 use Rattle.base.proofs.SumLaws.{sumTo-zeros}
 use Rattle.sheet_records.specs.Sheet.{count, howMany, sumOver, isNewUse}
-use Rattle.sheet_records.proofs.BaseMore.{equal-three}
+use Rattle.base.proofs.ChoiceLaws.{equal-three}
 use Rattle.state.specs.Layout.{interties, holders, lockedOf}
 use Rattle.carrying.specs.Line.{Line, lineIn}
 use Rattle.carrying.specs.Lines.{kept, highest, lockLine, withLocksOf, withLocks, nextLines}

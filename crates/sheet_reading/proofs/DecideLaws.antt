@@ -17,7 +17,8 @@ use Rattle.sheet_records.specs.Refusal.{within, badLength, badSizes, recordsSta
 use Rattle.sheet_reading.specs.Tables.{slots, slotOf, limitSlot, outsideSlot, loadShareSlot, existingSlot, newUseSlot, table, countTable, kwTable, ReadSheet}
 use Rattle.sheet_reading.specs.Workers.Adding.{Filled}
 use Rattle.sheet_reading.specs.Workers.Deciding.{tableRulesHold, tableExistingOn, tableLimitHolds, Modest}
-use Rattle.sheet_records.proofs.BaseMore.{allTo-rows, le-or-lt}
+use Rattle.base.proofs.ChoiceLaws.{le-or-lt}
+use Rattle.base.proofs.SumLaws.{allTo-rows}
 use Rattle.sheet_reading.proofs.TableLaws.{at-limit, at-load-share, at-new-use, limit-at, outside-at, existing-at}
 use Rattle.sheet_records.proofs.RefusalLaws.{sized}
 use Rattle.sheet_records.proofs.OverLaws.{over-all}

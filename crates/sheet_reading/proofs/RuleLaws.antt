@@ -11,7 +11,7 @@ use Rattle.base.proofs.ChoiceLaws.{and-left, and-right, pick-by}
 use Rattle.sheet_records.specs.Key.{kindOf, holderOf, intertieOf, rankOf, yearsOf}
 use Rattle.sheet_records.specs.Refusal.{recordStands, within}
 use Rattle.sheet_reading.specs.Workers.Kinds.{namesHolder, namesIntertie, namesRank, namesYears, leastOf, mostOf}
-use Rattle.sheet_records.proofs.BaseMore.{le-or-lt}
+use Rattle.base.proofs.ChoiceLaws.{le-or-lt}
 
 -- one of two tests, as a third says
 pub one-of : (n a b : Bool) → (n && a || not n && b) ≡ pick n a b

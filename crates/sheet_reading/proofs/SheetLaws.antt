@@ -17,7 +17,7 @@ use Rattle.sheet_records.specs.Sheet.{interties, holders, count, keyAt, kwAt, s
 use Rattle.sheet_records.specs.Refusal.{within, badLength, badSizes, someHolder, noHolder, someIntertie, noIntertie, someRank, noRank, someYears, noYears, repeatable, recordStands, recordsStand, oneLimitEach, oneLoadShareEach, noRankTwice, rulesHold, limitsHold, sheetRefusal}
 use Rattle.sheet_reading.specs.Tables.{ReadSheet}
 use Rattle.sheet_reading.specs.Workers.Adding.{Filled}
-use Rattle.sheet_records.proofs.BaseMore.{both, equal-two, equal-three}
+use Rattle.base.proofs.ChoiceLaws.{both, equal-two, equal-three}
 use Rattle.sheet_records.proofs.RefusalLaws.{whole, Sized, sized}
 use Rattle.sheet_records.proofs.OverLaws.{over-passing, over-all}
 

@@ -11,7 +11,7 @@ use Rattle.base.proofs.ChoiceLaws.{pick-by}
 use Rattle.sheet_records.specs.Key.{kindOf, holderOf, intertieOf, rankOf}
 use Rattle.sheet_reading.specs.Tables.{slot, slotOf, limitSlot, outsideSlot, loadShareSlot, existingSlot, preRaSlot, newUseSlot, slots}
 use Rattle.sheet_reading.specs.Workers.Adding.{add}
-use Rattle.sheet_records.proofs.BaseMore.{test-by, equal-two, equal-three}
+use Rattle.base.proofs.ChoiceLaws.{test-by, equal-two, equal-three}
 
 -- each region of slots belongs to one kind
 record Slotted (k h i r j : ℕ) : Type 0 where

@@ -13,7 +13,6 @@ ghost use Rattle.sheet_reading.specs.Tables.{slots, countTable, kwTable,
 ghost use Rattle.sheet_reading.specs.Workers.Adding.{SlotsOf};
 ghost use Rattle.sheet_reading.specs.Workers.Deciding.{tableRulesHold, tableExistingOn, tableLimitHolds, Modest};
 use crate::rules;
-use crate::sizes;
 use crate::tables;
 use crate::tables::SLOTS;
 use base::limits;
@@ -124,8 +123,8 @@ fn read_sized(
         × (now (counts .exit) ≡ countTable (now (sheet .entry)))
         × (now (kw .exit) ≡ kwTable (now (sheet .entry))) ⌝ }
 {
-    let intertie_count = sizes::intertie_count(sheet) as usize;
-    let holder_count = sizes::holder_count(sheet) as usize;
+    let intertie_count = words::intertie_count(sheet) as usize;
+    let holder_count = words::holder_count(sheet) as usize;
     let stand = rules::records_stand(sheet);
     tables::add_records(sheet, found, counts, kw);
     let rules = rules_hold(stand, counts, holder_count, intertie_count);
@@ -153,7 +152,7 @@ pub fn read_sheet(
     if words::bad_length(sheet) {
         return refusals::SHEET_LENGTH;
     }
-    if bad_sizes(sizes::intertie_count(sheet), sizes::holder_count(sheet)) {
+    if bad_sizes(words::intertie_count(sheet), words::holder_count(sheet)) {
         return refusals::SIZES;
     }
     let mut found = [0; MOST_RECORDS];
@@ -172,7 +171,7 @@ pub fn sheet_refusal(sheet: &[u8]) -> u32
     if words::bad_length(sheet) {
         return refusals::SHEET_LENGTH;
     }
-    if bad_sizes(sizes::intertie_count(sheet), sizes::holder_count(sheet)) {
+    if bad_sizes(words::intertie_count(sheet), words::holder_count(sheet)) {
         return refusals::SIZES;
     }
     let mut found = [0; MOST_RECORDS];

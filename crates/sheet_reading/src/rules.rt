@@ -6,7 +6,6 @@ ghost use lib.Dec.{eqb};
 ghost use Rattle.base.specs.Choice.{pick};
 ghost use Rattle.sheet_records.specs.Refusal.{within, badLength, recordStands, recordsStand};
 ghost use Rattle.sheet_reading.specs.Workers.Kinds.{namesHolder, namesIntertie, namesRank, namesYears, leastOf, mostOf};
-use crate::sizes;
 use base::kinds;
 use base::limits;
 use base::limits::MOST_YEARS;
@@ -14,6 +13,7 @@ use sheet_records::cursor::Cursor;
 use sheet_records::cursor::Read;
 use sheet_records::key;
 use sheet_records::reader;
+use sheet_records::words;
 
 const MOST_KW: u32 = limits::MOST_KW as u32;
 
@@ -122,9 +122,9 @@ pub(crate) fn records_stand(sheet: &[u8]) -> bool
     requires { ⌜ badLength (now sheet) ≡ false ⌝ }
     ensures { λ r. ⌜ r ≡ recordsStand (now (sheet .entry)) ⌝ }
 {
-    let interties = sizes::intertie_count(sheet);
-    let holders = sizes::holder_count(sheet);
-    let count = sizes::record_count(sheet) as usize;
+    let interties = words::intertie_count(sheet);
+    let holders = words::holder_count(sheet);
+    let count = words::record_count(sheet) as usize;
     let mut stand = true;
     let mut cursor = Cursor::first();
     loop {

@@ -11,7 +11,6 @@ ghost use Rattle.sheet_records.specs.Key.{keyHolders, keyInterties, keyRanks};
 ghost use Rattle.sheet_records.specs.Refusal.{badLength};
 ghost use Rattle.sheet_reading.specs.Tables.{slot, slotOf, slots, countTable, kwTable, intertieTable};
 ghost use Rattle.sheet_reading.specs.Workers.Adding.{add, SlotsOf};
-use crate::sizes;
 use base::kinds;
 use base::limits;
 use base::limits::MOST_RECORDS;
@@ -19,6 +18,7 @@ use sheet_records::cursor::Cursor;
 use sheet_records::cursor::Read;
 use sheet_records::key;
 use sheet_records::reader;
+use sheet_records::words;
 
 // A holder's row has a slot for each intertie that a key can name, or for each rank.
 pub const HOLDER_INTERTIES: usize = key::INTERTIES;
@@ -105,7 +105,7 @@ pub(crate) fn find_slots(sheet: &[u8], found: &mut [u32; MOST_RECORDS])
     requires { ⌜ (badLength (now sheet) ≡ false) × (length (now found) ≡ mostRecords) ⌝ }
     ensures { λ _. ⌜ SlotsOf (now (sheet .entry)) (now (found .exit)) ⌝ }
 {
-    let count = sizes::record_count(sheet) as usize;
+    let count = words::record_count(sheet) as usize;
     let mut cursor = Cursor::first();
     loop {
         let read = reader::read_record(sheet, count, cursor.at);
@@ -145,7 +145,7 @@ pub(crate) fn add_records(
     ensures { λ _. ⌜ (now (counts .exit) ≡ countTable (now (sheet .entry)))
         × (now (kw .exit) ≡ kwTable (now (sheet .entry))) ⌝ }
 {
-    let count = sizes::record_count(sheet) as usize;
+    let count = words::record_count(sheet) as usize;
     let mut cursor = Cursor::first();
     loop {
         let read = reader::read_record(sheet, count, cursor.at);
@@ -177,7 +177,7 @@ pub(crate) fn place_records(sheet: &[u8], found: &[u32; MOST_RECORDS], interties
         × (now interties ≡ replicate slots 0) ⌝ }
     ensures { λ _. ⌜ now (interties .exit) ≡ intertieTable (now (sheet .entry)) ⌝ }
 {
-    let count = sizes::record_count(sheet) as usize;
+    let count = words::record_count(sheet) as usize;
     let mut cursor = Cursor::first();
     loop {
         let read = reader::read_record(sheet, count, cursor.at);

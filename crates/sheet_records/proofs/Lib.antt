@@ -1,4 +1,3 @@
-pub mod BaseMore
 pub mod KeyLaws
 pub mod OverLaws
 pub mod RefusalLaws

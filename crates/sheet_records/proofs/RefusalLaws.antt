@@ -10,7 +10,7 @@ use lib.ListN.{length}
 use Rattle.base.specs.Choice.{pick}
 use Rattle.sheet_records.specs.Sheet.{interties, holders, count}
 use Rattle.sheet_records.specs.Refusal.{within, badLength, Whole, badSizes}
-use Rattle.sheet_records.proofs.BaseMore.{both}
+use Rattle.base.proofs.ChoiceLaws.{both}
 
 neither : (a b : Bool) → a || b ≡ false → (a ≡ false) × (b ≡ false)
 neither true b e = absurd (true≢false e)

@@ -1,9 +1,9 @@
 -- `sheet_reading::refusal::existing_on` meets its contract: after h turns the sum over the first h holders. The measure is the holders still to come.
-use Rattle.base.proofs.Prelude.{ℕ, _-_, _*_, _≤_, zero-le, _≡_, sym, arith, needs, at}
+use Rattle.base.proofs.Prelude.{ℕ, refl, _-_, _*_, _≤_, zero-le, _≡_, sym, arith, needs, at}
 use Rattle.sheet_reading.specs.Tables.{existingSlot}
 use Rattle.sheet_reading.specs.Workers.Deciding.{tableExistingOn}
 use Rattle.base.proofs.SumLaws.{sumTo-zero}
-use Rattle.sheet_records.proofs.BaseMore.{sum-more, sum-done, sum-room}
+use Rattle.base.proofs.SumLaws.{sum-more, sum-done, sum-room}
 use Rattle.sheet_reading.proofs.refusal.existing_on.Statement.{statement}
 use Rattle.sheet_reading.proofs.refusal.existing_on.Tie as tie
 
@@ -26,7 +26,7 @@ add-sum-3 c =
 loop-again : tie.Need-loop-again Inv-loop μ-loop
 loop-again c =
     let at-loop : tie.At-loop Inv-loop μ-loop = search needs in
-    (search needs, sum-more _ _ _ (at-loop .loop .inv .1))
+    (search needs, sum-more _ _ _ _ (at-loop .loop .inv .1) refl)
 
 returns : tie.Need-returns Inv-loop μ-loop
 returns c = sum-done _ _ _ _ (c .before .loop .inv .1) (c .before .loop .inv .0) (c .loop-test .left)

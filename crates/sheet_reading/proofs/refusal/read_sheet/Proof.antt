@@ -1,6 +1,7 @@
--- `sheet_reading::refusal::read_sheet` meets its contract: numbers 1 and 2 leave the tables alone, and past them the tables are filled.
+-- `sheet_reading::refusal::read_sheet` meets its contract: refusals 1 and 2 leave the tables alone, and past them the tables are filled.
 use Rattle.base.proofs.Prelude.{_≡_, refl, sym, _∙_, false, now, needs}
 use Rattle.sheet_records.specs.Refusal.{badLength, badSizes}
+use Rattle.sheet_records.proofs.RefusalLaws.{long-enough}
 use Rattle.sheet_reading.proofs.DecideLaws.{sizes-decided, read-sheet-1, read-sheet-2, read-sheet-filled}
 use Rattle.sheet_reading.proofs.refusal.read_sheet.Statement.{statement}
 use Rattle.sheet_reading.proofs.refusal.read_sheet.Tie as tie
@@ -8,18 +9,15 @@ use Rattle.sheet_reading.proofs.refusal.read_sheet.Tie as tie
 returns : tie.Need-returns
 returns c = read-sheet-1 _ _ _ _ _ (c .before .bad-length .ensures) (c .if1 .taken)
 
-holder-count-requires : tie.Need-holder-count-requires
-holder-count-requires c κs =
-    let after-bad-length : tie.After-bad-length = search needs in
-    sym (after-bad-length .bad-length .ensures) ∙ c .before .if1 .left
-
--- the test of number 2
+-- the test of refusal 2
 sizes : (c : tie.After-bad-sizes) → c .bad-sizes .result ≡ badSizes (now (c .before .before .before .before .before .before .args .sheet))
 sizes c =
     let after-intertie-count : tie.After-intertie-count = search needs in
-    sizes-decided _ _ _ _ (after-intertie-count .intertie-count .ensures) (c .before .holder-count .ensures) (c .bad-sizes .ensures)
+    let else1 : tie.Else1 = search needs in let after-bad-length : tie.After-bad-length = search needs in
+    let long = sym (after-bad-length .bad-length .ensures) ∙ else1 .if1 .left in
+    sizes-decided _ _ _ _ (long-enough _ _ _ long (after-intertie-count .intertie-count .ensures)) (long-enough _ _ _ long (c .before .holder-count .ensures)) (c .bad-sizes .ensures)
 
--- past numbers 1 and 2
+-- past refusals 1 and 2
 passed : (c : tie.Else2) → (badLength (now (c .before .before .before .before .before .before .before .args .sheet)) ≡ false) × (badSizes (now (c .before .before .before .before .before .before .before .args .sheet)) ≡ false)
 passed c =
     let else1 : tie.Else1 = search needs in let after-bad-length : tie.After-bad-length = search needs in
@@ -49,6 +47,6 @@ returns-3 c =
 
 pub read-sheet-spec : {M : Type 1} → statement M
 read-sheet-spec =
-    tie.close (tie.spec (λ c κs. search needs) returns (λ c κs. sym (c .before .bad-length .ensures) ∙ c .if1 .left)
-    holder-count-requires (λ c κs. search needs) returns-2 (λ c κs. (passed (c .before) .0, search needs))
+    tie.close (tie.spec (λ c κs. search needs) returns (λ c κs. search needs)
+    (λ c κs. search needs) (λ c κs. search needs) returns-2 (λ c κs. (passed (c .before) .0, search needs))
     place-records-requires read-sized-requires returns-3)

@@ -1,16 +1,12 @@
--- `sheet_reading::refusal::read_sized` meets its contract: what is decided from the filled tables is numbers 3 and 4 of the sheet.
+-- `sheet_reading::refusal::read_sized` meets its contract: what is decided from the filled tables is refusals 3 and 4 of the sheet.
 use Rattle.base.proofs.Prelude.{_≡_, refl, arith, now, needs}
 use borrow.Author.Tests.{not-true, not-false}
+use Rattle.sheet_records.specs.Sheet.{interties, holders}
 use Rattle.sheet_records.specs.Refusal.{rulesHold, limitsHold}
-use Rattle.sheet_records.proofs.RefusalLaws.{whole, sized}
+use Rattle.sheet_records.proofs.RefusalLaws.{whole, long-enough, sized}
 use Rattle.sheet_reading.proofs.DecideLaws.{modest, rules-decided, limits-decided, refused-3, refused-4, stands}
 use Rattle.sheet_reading.proofs.refusal.read_sized.Statement.{statement}
 use Rattle.sheet_reading.proofs.refusal.read_sized.Tie as tie
-
-holder-count-requires : tie.Need-holder-count-requires
-holder-count-requires c κs =
-    let start : tie.Start = search needs in
-    start .pre .0
 
 add-records-requires : tie.Need-add-records-requires
 add-records-requires c κs =
@@ -28,10 +24,16 @@ words c = tested c .before
 abbrev entry : tie.After-add-records → tie.Start
 entry c = words c .before .before .before
 
+-- the sizes are the sheet's
+holders-read : (c : tie.After-add-records) → words c .holder-count .result ≡ holders (now (entry c .args .sheet))
+holders-read c = long-enough _ _ _ (entry c .pre .0) (words c .holder-count .ensures)
+
+interties-read : (c : tie.After-add-records) → words c .before .intertie-count .result ≡ interties (now (entry c .args .sheet))
+interties-read c = long-enough _ _ _ (entry c .pre .0) (words c .before .intertie-count .ensures)
+
 rules-hold-requires : tie.Need-rules-hold-requires
 rules-hold-requires c κs =
-    let read = words (c .before) in
-    omega (arith, sized _ (entry (c .before) .pre .1), read .holder-count .ensures, read .before .intertie-count .ensures)
+    omega (arith, sized _ (entry (c .before) .pre .1), holders-read (c .before), interties-read (c .before))
 
 limits-hold-requires : tie.Need-limits-hold-requires
 limits-hold-requires c κs =
@@ -39,8 +41,8 @@ limits-hold-requires c κs =
     let read = words after-add-records in
     let pre = entry after-add-records .pre in
     let sizes = sized _ (pre .1) in (
-      omega (arith, sizes, read .holder-count .ensures),
-      omega (arith, sizes, read .before .intertie-count .ensures),
+      omega (arith, sizes, holders-read after-add-records),
+      omega (arith, sizes, interties-read after-add-records),
       rw (after-add-records .add-records .ensures .1)
           (modest _ (whole _ _ (pre .0) refl .few) (λ i. read .before .before .shared-slice-known .given i .fits)),
     )
@@ -49,23 +51,21 @@ limits-hold-requires c κs =
 abbrev filledAt : tie.After-limits-hold → tie.After-add-records
 filledAt c = c .before .before .before .before
 
--- the test of number 3 is that of the rules
+-- the test of refusal 3 is that of the rules
 rules : (c : tie.After-limits-hold) → c .before .before .rules-hold .result ≡ rulesHold (now (entry (filledAt c) .args .sheet))
 rules c =
     let after-rules-hold : tie.After-rules-hold = search needs in
     let filled = filledAt c in
     let pre = entry filled .pre in
-    let read = words filled in
-    rules-decided _ (pre .0) (pre .1) _ _ (read .holder-count .ensures) (read .before .intertie-count .ensures)
+    rules-decided _ (pre .0) (pre .1) _ _ (holders-read filled) (interties-read filled)
     _ _ _ (tested filled .records-stand .ensures) (filled .add-records .ensures .0) (after-rules-hold .rules-hold .ensures)
 
--- the test of number 4 is that of the limits
+-- the test of refusal 4 is that of the limits
 limits : (c : tie.After-limits-hold) → c .limits-hold .result ≡ limitsHold (now (entry (filledAt c) .args .sheet))
 limits c =
     let filled = filledAt c in
     let pre = entry filled .pre in
-    let read = words filled in
-    limits-decided _ (pre .0) (pre .1) _ _ (read .holder-count .ensures) (read .before .intertie-count .ensures)
+    limits-decided _ (pre .0) (pre .1) _ _ (holders-read filled) (interties-read filled)
     _ _ (filled .add-records .ensures .1) (c .limits-hold .ensures)
 
 returns : tie.Need-returns
@@ -94,5 +94,5 @@ returns-3 c =
 
 pub read-sized-spec : {M : Type 1} → statement M
 read-sized-spec =
-    tie.close (tie.spec (λ c κs. c .before .pre .0) (λ c. search needs) holder-count-requires (λ c. search needs)
+    tie.close (tie.spec (λ c κs. search needs) (λ c. search needs) (λ c κs. search needs) (λ c. search needs)
     (λ c κs. search needs) add-records-requires rules-hold-requires limits-hold-requires returns returns-2 returns-3)

@@ -1,6 +1,7 @@
--- `sheet_reading::refusal::sheet_refusal` meets its contract: numbers 1 and 2 by their tests, 3 and 4 by a reading into cleared tables.
+-- `sheet_reading::refusal::sheet_refusal` meets its contract: refusals 1 and 2 by their tests, 3 and 4 by a reading into cleared tables.
 use Rattle.base.proofs.Prelude.{_≡_, refl, sym, _∙_, [], false, now, needs}
 use Rattle.sheet_records.specs.Refusal.{badLength, badSizes}
+use Rattle.sheet_records.proofs.RefusalLaws.{long-enough}
 use Rattle.sheet_reading.proofs.DecideLaws.{sizes-decided, read-sheet-1, read-sheet-2}
 use Rattle.sheet_reading.proofs.refusal.sheet_refusal.Statement.{statement}
 use Rattle.sheet_reading.proofs.refusal.sheet_refusal.Tie as tie
@@ -8,23 +9,20 @@ use Rattle.sheet_reading.proofs.refusal.sheet_refusal.Tie as tie
 returns : tie.Need-returns
 returns c = read-sheet-1 _ [] [] [] _ (c .before .bad-length .ensures) (c .if1 .taken) .answer
 
-holder-count-requires : tie.Need-holder-count-requires
-holder-count-requires c κs =
-    let after-bad-length : tie.After-bad-length = search needs in
-    sym (after-bad-length .bad-length .ensures) ∙ c .before .if1 .left
-
--- the test of number 2
+-- the test of refusal 2
 sizes : (c : tie.After-bad-sizes) → c .bad-sizes .result ≡ badSizes (now (c .before .before .before .before .before .before .args .sheet))
 sizes c =
     let after-intertie-count : tie.After-intertie-count = search needs in
-    sizes-decided _ _ _ _ (after-intertie-count .intertie-count .ensures) (c .before .holder-count .ensures) (c .bad-sizes .ensures)
+    let else1 : tie.Else1 = search needs in let after-bad-length : tie.After-bad-length = search needs in
+    let long = sym (after-bad-length .bad-length .ensures) ∙ else1 .if1 .left in
+    sizes-decided _ _ _ _ (long-enough _ _ _ long (after-intertie-count .intertie-count .ensures)) (long-enough _ _ _ long (c .before .holder-count .ensures)) (c .bad-sizes .ensures)
 
 returns-2 : tie.Need-returns-2
 returns-2 c =
     let else1 : tie.Else1 = search needs in let after-bad-length : tie.After-bad-length = search needs in
     read-sheet-2 _ [] [] [] _ _ (after-bad-length .bad-length .ensures) (else1 .if1 .left) (sizes (c .before)) (c .if2 .taken) .answer
 
--- past numbers 1 and 2
+-- past refusals 1 and 2
 passed : (c : tie.Else2) → (badLength (now (c .before .before .before .before .before .before .before .args .sheet)) ≡ false) × (badSizes (now (c .before .before .before .before .before .before .before .args .sheet)) ≡ false)
 passed c =
     let else1 : tie.Else1 = search needs in let after-bad-length : tie.After-bad-length = search needs in
@@ -37,6 +35,6 @@ read-sized-requires c κs =
 
 pub sheet-refusal-spec : {M : Type 1} → statement M
 sheet-refusal-spec =
-    tie.close (tie.spec (λ c κs. search needs) returns (λ c κs. sym (c .before .bad-length .ensures) ∙ c .if1 .left)
-    holder-count-requires (λ c κs. search needs) returns-2 (λ c κs. (passed (c .before) .0, search needs))
+    tie.close (tie.spec (λ c κs. search needs) returns (λ c κs. search needs)
+    (λ c κs. search needs) (λ c κs. search needs) returns-2 (λ c κs. (passed (c .before) .0, search needs))
     read-sized-requires (λ c. c .read-sized .ensures .0))

@@ -1,9 +1,9 @@
 -- `sheet_reading::rules::records_stand` meets its contract: the tests of n records (`Tested`), of one more, and of all. The measure is the
 -- records still to come.
-use Rattle.base.proofs.Prelude.{ℕ, _-_, _≡_, _∙_, arith, now, needs}
+use Rattle.base.proofs.Prelude.{ℕ, _-_, _≡_, length, ltb, pick, _∙_, arith, now, needs}
 use Rattle.sheet_records.specs.Sheet.{count}
 use Rattle.sheet_records.specs.Reading.{readAt, readOf}
-use Rattle.sheet_records.proofs.RefusalLaws.{whole}
+use Rattle.sheet_records.proofs.RefusalLaws.{long-enough, counted}
 use Rattle.sheet_records.proofs.ReadingLaws.{RecordRead, of-whole, record-read, at-end}
 use Rattle.sheet_reading.proofs.PassLaws.{Tested, tested-none, tested-more, tested-all}
 use Rattle.sheet_reading.proofs.rules.records_stand.Statement.{statement}
@@ -23,9 +23,9 @@ abbrev entry : tie.At-loop Inv-loop μ-loop → tie.Start Inv-loop μ-loop
 entry c = words c .before .before .before .before
 
 -- what a turn reads is the sheet's record
-at-place : (c : tie.At-loop Inv-loop μ-loop) (n : ℕ) → n ≡ count (now (entry c .args .sheet))
+at-place : (c : tie.At-loop Inv-loop μ-loop) (n : ℕ) → n ≡ pick (ltb (length (now (entry c .args .sheet))) 12) 0 (count (now (entry c .args .sheet)))
     → readOf (now (entry c .args .sheet)) n (c .loop .cursor .at) ≡ readAt (now (entry c .args .sheet)) (c .loop .cursor .at)
-at-place c n e = of-whole _ n _ (whole _ n (entry c .pre) e)
+at-place c n e = of-whole _ n _ (counted _ n (entry c .pre) e)
 
 -- the record that a turn is about
 here : (c : tie.After-read Inv-loop μ-loop) →
@@ -35,16 +35,6 @@ here c =
     let at-loop : tie.At-loop Inv-loop μ-loop = search needs in
     let after-read-record : tie.After-read-record Inv-loop μ-loop = search needs in
     record-read _ _ _ _ _ (entry at-loop .pre) (after-read-record .read-record .ensures ∙ at-place at-loop _ (words at-loop .record-count .ensures)) (c .read .given .1)
-
-holder-count-requires : tie.Need-holder-count-requires Inv-loop μ-loop
-holder-count-requires c κs =
-    let start : tie.Start Inv-loop μ-loop = search needs in
-    start .pre
-
-record-count-requires : tie.Need-record-count-requires Inv-loop μ-loop
-record-count-requires c κs =
-    let start : tie.Start Inv-loop μ-loop = search needs in
-    start .pre
 
 loop-holds : tie.Need-loop-holds Inv-loop μ-loop
 loop-holds c = tested-none _ _ (c .first .ensures)
@@ -58,11 +48,11 @@ loop-again : tie.Need-loop-again Inv-loop μ-loop
 loop-again c =
     let after-read : tie.After-read Inv-loop μ-loop = search needs in
     let at-loop : tie.At-loop Inv-loop μ-loop = search needs in
-    let after-record-count : tie.After-record-count Inv-loop μ-loop = search needs in
-    let after-first : tie.After-first Inv-loop μ-loop = search needs in
+    let sized : tie.After-holder-count Inv-loop μ-loop = search needs in
     let now = here after-read in
     tested-more _ _ _ (at-loop .loop .inv) _ _ _ _ _ _ (now .inside) (now .key-is) (now .kw-is)
-    (words after-record-count .intertie-count .ensures) (words after-first .holder-count .ensures) (c .record-stands .ensures) (now .next-is)
+    (long-enough _ _ _ (entry at-loop .pre) (sized .before .intertie-count .ensures))
+    (long-enough _ _ _ (entry at-loop .pre) (sized .holder-count .ensures)) (c .record-stands .ensures) (now .next-is)
 
 returns : tie.Need-returns Inv-loop μ-loop
 returns c =
@@ -73,6 +63,6 @@ returns c =
 
 pub records-stand-spec : {M : Type 1} → statement M
 records-stand-spec =
-    tie.close (tie.spec Inv-loop μ-loop (λ c κs. c .before .pre) holder-count-requires record-count-requires
+    tie.close (tie.spec Inv-loop μ-loop (λ c κs. search needs) (λ c κs. search needs) (λ c κs. search needs)
     (λ c. search needs) (λ c κs. search needs) loop-holds (λ c κs. search needs) (λ c. search needs)
     (λ c κs. search needs) loop-less loop-again (λ c. search needs) returns)

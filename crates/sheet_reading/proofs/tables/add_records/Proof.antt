@@ -1,8 +1,8 @@
 -- `sheet_reading::tables::add_records` meets its contract: after n records both tables have their amounts (`Added`), and after one more. The measure is the records still to come.
-use Rattle.base.proofs.Prelude.{ℕ, _-_, _≡_, refl, _∙_, arith, now, needs}
+use Rattle.base.proofs.Prelude.{ℕ, _-_, _≤_, _≡_, length, ltb, pick, refl, _∙_, arith, now, needs}
 use Rattle.sheet_records.specs.Sheet.{count}
 use Rattle.sheet_records.specs.Reading.{readAt, readOf}
-use Rattle.sheet_records.proofs.RefusalLaws.{whole}
+use Rattle.sheet_records.proofs.RefusalLaws.{whole, counted}
 use Rattle.sheet_records.proofs.ReadingLaws.{RecordRead, of-whole, record-read, at-end}
 use Rattle.sheet_records.specs.Sheet.{kwAt}
 use Rattle.sheet_reading.proofs.PassLaws.{Added, added-none, slot-below, count-room, kw-room, added-more, added-all}
@@ -24,9 +24,13 @@ abbrev entry : tie.At-loop Inv-loop μ-loop → tie.Start Inv-loop μ-loop
 entry c = words c .before .before
 
 -- what a turn reads is the sheet's record
-at-place : (c : tie.At-loop Inv-loop μ-loop) (n : ℕ) → n ≡ count (now (entry c .args .sheet))
+at-place : (c : tie.At-loop Inv-loop μ-loop) (n : ℕ) → n ≡ pick (ltb (length (now (entry c .args .sheet))) 12) 0 (count (now (entry c .args .sheet)))
     → readOf (now (entry c .args .sheet)) n (c .loop .cursor .at) ≡ readAt (now (entry c .args .sheet)) (c .loop .cursor .at)
-at-place c n e = of-whole _ n _ (whole _ n (entry c .pre .0) e)
+at-place c n e = of-whole _ n _ (counted _ n (entry c .pre .0) e)
+
+-- a sheet has few records
+few-at : (c : tie.At-loop Inv-loop μ-loop) → count (now (entry c .args .sheet)) ≤ 1024
+few-at c = whole _ _ (entry c .pre .0) refl .few
 
 -- the record that a turn is about
 here : (c : tie.After-read Inv-loop μ-loop) →
@@ -52,13 +56,12 @@ add-at-requires : tie.Need-add-at-requires Inv-loop μ-loop
 add-at-requires c κs =
     let after-read : tie.After-read Inv-loop μ-loop = search needs in
     let at-loop : tie.At-loop Inv-loop μ-loop = search needs in
-    let after-first : tie.After-first Inv-loop μ-loop = search needs in
     let all = entry at-loop .pre .1 in
     let few = whole _ _ (entry at-loop .pre .0) refl .few in
     let more = here after-read .inside in (
       slot-below (now (entry at-loop .args .sheet)) (now (entry at-loop .args .found)) all _ more,
       count-room (now (entry at-loop .args .sheet)) (now (entry at-loop .args .found)) all _ more _ (at-loop .loop .inv .0) few,
-      kw-room (now (entry at-loop .args .sheet)) (now (entry at-loop .args .found)) all _ more _ (at-loop .loop .inv .1) _ few (λ i. words after-first .shared-slice-known .given i .fits) (here after-read .kw-is),
+      kw-room (now (entry at-loop .args .sheet)) (now (entry at-loop .args .found)) all _ more _ (at-loop .loop .inv .1) _ few (λ i. words at-loop .before .shared-slice-known .given i .fits) (here after-read .kw-is),
     )
 
 loop-less : tie.Need-loop-less Inv-loop μ-loop
@@ -85,6 +88,6 @@ returns c =
 
 pub add-records-spec : {M : Type 1} → statement M
 add-records-spec =
-    tie.close (tie.spec Inv-loop μ-loop (λ c κs. c .before .pre .0) (λ c. search needs) (λ c κs. search needs)
-    loop-holds (λ c κs. search needs) (λ c. search needs) (λ c. search needs) element-copy-out-slot add-at-requires
+    tie.close (tie.spec Inv-loop μ-loop (λ c κs. search needs) (λ c. search needs) (λ c κs. search needs)
+    loop-holds (λ c κs. search needs) (λ c. search needs) (λ c. let few = few-at (search needs) in search needs) element-copy-out-slot add-at-requires
     loop-less loop-again (λ c. search needs) returns)

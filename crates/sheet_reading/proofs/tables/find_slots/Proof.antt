@@ -1,9 +1,9 @@
 -- `sheet_reading::tables::find_slots` meets its contract: the slots of n records (`Slotted`), of one more, and of all. The measure is the
 -- records still to come.
-use Rattle.base.proofs.Prelude.{ℕ, _-_, _≡_, refl, _∙_, arith, now, needs}
+use Rattle.base.proofs.Prelude.{ℕ, _-_, _≤_, _≡_, length, ltb, pick, refl, _∙_, arith, now, needs}
 use Rattle.sheet_records.specs.Sheet.{count}
 use Rattle.sheet_records.specs.Reading.{readAt, readOf}
-use Rattle.sheet_records.proofs.RefusalLaws.{whole}
+use Rattle.sheet_records.proofs.RefusalLaws.{whole, counted}
 use Rattle.sheet_records.proofs.ReadingLaws.{RecordRead, of-whole, record-read, at-end}
 use Rattle.sheet_reading.proofs.PassLaws.{Slotted, slotted-none, slotted-more, slotted-all}
 use Rattle.sheet_reading.proofs.tables.find_slots.Statement.{statement}
@@ -23,9 +23,13 @@ abbrev entry : tie.At-loop Inv-loop μ-loop → tie.Start Inv-loop μ-loop
 entry c = words c .before .before
 
 -- what a turn reads is the sheet's record
-at-place : (c : tie.At-loop Inv-loop μ-loop) (n : ℕ) → n ≡ count (now (entry c .args .sheet))
+at-place : (c : tie.At-loop Inv-loop μ-loop) (n : ℕ) → n ≡ pick (ltb (length (now (entry c .args .sheet))) 12) 0 (count (now (entry c .args .sheet)))
     → readOf (now (entry c .args .sheet)) n (c .loop .cursor .at) ≡ readAt (now (entry c .args .sheet)) (c .loop .cursor .at)
-at-place c n e = of-whole _ n _ (whole _ n (entry c .pre .0) e)
+at-place c n e = of-whole _ n _ (counted _ n (entry c .pre .0) e)
+
+-- a sheet has few records
+few-at : (c : tie.At-loop Inv-loop μ-loop) → count (now (entry c .args .sheet)) ≤ 1024
+few-at c = whole _ _ (entry c .pre .0) refl .few
 
 -- the record that a turn is about
 here : (c : tie.After-read Inv-loop μ-loop) →
@@ -67,6 +71,6 @@ returns c =
 
 pub find-slots-spec : {M : Type 1} → statement M
 find-slots-spec =
-    tie.close (tie.spec Inv-loop μ-loop (λ c κs. c .before .pre .0) (λ c. search needs) (λ c κs. search needs)
-    loop-holds (λ c κs. search needs) (λ c. search needs) (λ c κs. search needs) (λ c. search needs)
+    tie.close (tie.spec Inv-loop μ-loop (λ c κs. search needs) (λ c. search needs) (λ c κs. search needs)
+    loop-holds (λ c κs. search needs) (λ c. search needs) (λ c κs. search needs) (λ c. let few = few-at (search needs) in search needs)
     element-write-found loop-less loop-again (λ c. search needs) returns)
