@@ -267,7 +267,7 @@ static void share_outs(void)
     REFUSED(zankurbe_share_out(7, five, 1, above_weight, 1, out, 1), ZANKURBE_REFUSED_RANGE);
 }
 
-/* Numbers 1 to 4, each by opening, posting and the sheet's refusal. */
+/* Refusals 1 to 4, each by opening, posting and the sheet's refusal. */
 static void refused_sheet(const uint8_t *bytes, size_t length, uint32_t refusal)
 {
     CHECK(zankurbe_sheet_refusal(bytes, length) == refusal);

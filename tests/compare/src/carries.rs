@@ -229,7 +229,7 @@ fn count_granted(inputs: &Inputs, year: &Year, next: &Next, tally: &mut Tally) {
     tally.count("granted into more bytes", room > next.bytes());
 }
 
-/// Counts the sorts that a refused carry is of; of number 14, by its four conditions.
+/// Counts the sorts that a refused carry is of; of refusal 14, by its four conditions.
 fn count_refused(answer: Answer, inputs: &Inputs, year: &Year, next: &Next, tally: &mut Tally) {
     tally.count(&format!("refused {}", answer.refusal), true);
     if answer.refusal != 14 {

@@ -412,7 +412,7 @@ fn damage_state(words: &mut [u32], r: &mut Numbers) {
     }
 }
 
-/// A sheet damaged for numbers 1 to 4, with a few bits changed, or other bytes.
+/// A sheet damaged for refusals 1 to 4, with a few bits changed, or other bytes.
 fn damage_sheet(draft: Draft, r: &mut Numbers) -> Vec<u8> {
     match r.below(10) {
         0 => damages::garbage(r),

@@ -1,4 +1,4 @@
-//! Sheets damaged in the ways that numbers 1 to 4 name, and bytes that are hardly a sheet.
+//! Sheets damaged in the ways that refusals 1 to 4 name, and bytes that are hardly a sheet.
 
 use crate::numbers::Numbers;
 use crate::sheets::{kw_records, Draft};
@@ -9,7 +9,7 @@ use independent::sheet::{
     RECORD_BYTES,
 };
 
-/// The bytes of a sheet damaged for one of the numbers 1 to 4, sometimes for another one too.
+/// The bytes of a sheet damaged for one of the refusals 1 to 4, sometimes for another one too.
 pub fn damaged(mut draft: Draft, r: &mut Numbers) -> Vec<u8> {
     let first = r.one_of(&[1, 1, 2, 2, 3, 3, 3, 4, 4]);
     let second = if r.once_in(5) { 1 + r.below(4) } else { first };
@@ -107,7 +107,7 @@ fn limit_record(intertie: u32, quantity: u32) -> Record {
     Record { key, quantity }
 }
 
-/// Number 1: a length off by a byte, a word or a record, or cut anywhere; a K that isn't the records'.
+/// Refusal 1: a length off by a byte, a word or a record, or cut anywhere; a K that isn't the records'.
 fn break_length(bytes: &mut Vec<u8>, r: &mut Numbers) {
     let count = ((bytes.len() - HEADER_BYTES) / RECORD_BYTES) as u32;
     let some = r.one_of(&[1, 1, 1, 2, 3, 4, 7, 8, 12]);
@@ -132,14 +132,14 @@ fn break_length(bytes: &mut Vec<u8>, r: &mut Numbers) {
     }
 }
 
-/// Number 1: more than 1,024 records, all of them there.
+/// Refusal 1: more than 1,024 records, all of them there.
 fn overfill(draft: &mut Draft, r: &mut Numbers) {
     let count = MAX_RECORDS + r.one_of(&[1, 1, 2, 100]);
     let record = draft.records.last().copied().unwrap_or(limit_record(0, 0));
     draft.records.resize(count, record);
 }
 
-/// Number 2: a size of 0, one too many, or far too large, also where its low bits stand.
+/// Refusal 2: a size of 0, one too many, or far too large, also where its low bits stand.
 fn break_sizes(draft: &mut Draft, r: &mut Numbers) {
     let which = r.below(5);
     if which != 0 {
@@ -156,7 +156,7 @@ fn beyond_size(size: u32, most: u32, r: &mut Numbers) -> u32 {
     r.one_of(&[0, 0, most + 1, most + 1, low_bits_stand, any, u32::MAX])
 }
 
-/// Number 3: one record that breaks a rule by itself or with the others, or sizes that don't fit them.
+/// Refusal 3: one record that breaks a rule by itself or with the others, or sizes that don't fit them.
 fn break_a_rule(draft: &mut Draft, r: &mut Numbers) {
     match r.below(12) {
         0 => break_limits(draft, r),
@@ -315,7 +315,7 @@ fn beyond_quantity(kind: u32, r: &mut Numbers) -> u32 {
     ])
 }
 
-/// Number 4: outside rights and existing contracts above a limit: by 1 kW, by more, or by just so much
+/// Refusal 4: outside rights and existing contracts above a limit: by 1 kW, by more, or by just so much
 /// that 32 bits would not show it.
 fn pass_a_limit(draft: &mut Draft, r: &mut Numbers) {
     let Some(at) = find(draft, LIMIT, r) else {

@@ -70,7 +70,7 @@ pub fn case(number: u64) -> Case {
     case
 }
 
-/// One thing, or two, that numbers 5 and 9 are about, by one beyond the limit or far.
+/// One thing, or two, that refusals 5 and 9 are about, by one beyond the limit or far.
 fn damage(case: &mut Case, r: &mut Numbers) {
     for _ in 0..1 + r.below(2) {
         let beyond = |most: u64, r: &mut Numbers| {

@@ -12,7 +12,7 @@ pub struct Table {
     carriage_returns: bool,
 }
 
-/// The bytes of a sheet of any sort that number 1 lets pass: standing, damaged, or of any words.
+/// The bytes of a sheet of any sort that refusal 1 lets pass: standing, damaged, or of any words.
 pub fn any_sheet(r: &mut Numbers) -> Vec<u8> {
     if r.once_in(6) {
         return noise(r);
@@ -38,7 +38,7 @@ fn noise(r: &mut Numbers) -> Vec<u8> {
 }
 
 impl Table {
-    /// A table of a sheet that number 1 lets pass.
+    /// A table of a sheet that refusal 1 lets pass.
     pub fn new(sheet: &[u8], r: &mut Numbers) -> Table {
         let words: Vec<u32> = sheet
             .chunks_exact(4)

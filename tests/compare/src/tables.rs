@@ -81,7 +81,7 @@ pub fn compare(number: u64, tally: &mut Tally) -> Result<(), String> {
 /// Prints a sheet and reads what was printed: the text is the independent program's, the bytes are the
 /// sheet's.
 fn there_and_back(sheet: &[u8], r: &mut Numbers, tally: &mut Tally) -> Result<(), String> {
-    let expected = table::print(sheet).expect("a sheet that number 1 lets pass");
+    let expected = table::print(sheet).expect("a sheet that refusal 1 lets pass");
     programs::write(SHEET, sheet)?;
     let text = programs::run(PROGRAM, &[SHEET], &[])?;
     if text.output != expected.as_bytes() || !text.error.is_empty() {

@@ -48,17 +48,17 @@ pub enum Call {
 /// Why a line is bad.
 #[derive(Clone, Copy, Debug, PartialEq, Eq)]
 pub enum Why {
-    /// "the name isn't a call".
+    /// The name isn't a call.
     NoCall,
-    /// "a number is missing".
+    /// A number is missing.
     Missing,
-    /// "one too many".
+    /// One too many.
     Surplus,
-    /// One that "can't be read".
+    /// One that can't be read.
     NoNumber,
-    /// "a number over 32 bits".
+    /// A number over 32 bits.
     Over32Bits,
-    /// "more than 16,384 calls".
+    /// More than 16,384 calls.
     TooManyCalls,
 }
 
@@ -78,7 +78,7 @@ pub struct Run {
     pub year: Box<Year>,
 }
 
-/// The calls of a journal's text: "byte 10 or the end of the text ends a line".
+/// The calls of a journal's text: byte 10 or the end of the text ends a line.
 pub fn read(text: &[u8]) -> Result<Vec<Call>, Fault> {
     let mut calls = Vec::new();
     for (line, bytes) in (1..).zip(text.split(|&byte| byte == b'\n')) {
@@ -95,14 +95,14 @@ pub fn read(text: &[u8]) -> Result<Vec<Call>, Fault> {
     Ok(calls)
 }
 
-/// The call of a line. "a line with no words, or whose first byte is `#`, is a
-/// comment". "The name is judged first, then the words from left to right".
+/// The call of a line. A line with no words, or whose first byte is `#`, is a
+/// comment. The name is judged first, then the words from left to right.
 fn read_line(line: &[u8]) -> Result<Option<Call>, Why> {
     if line.starts_with(b"#") {
         return Ok(None);
     }
-    // "words separated by one or more blanks, where tab and carriage return
-    // count as blanks".
+    // Words separated by one or more blanks, where tab and carriage return
+    // count as blanks.
     let blank = |byte: &u8| matches!(byte, b' ' | b'\t' | b'\r');
     let mut words = line.split(blank).filter(|word| !word.is_empty());
     let Some(name) = words.next() else {
@@ -155,7 +155,7 @@ fn read_line(line: &[u8]) -> Result<Option<Call>, Why> {
     }))
 }
 
-/// "numbers are decimal digits, at most 2^32 - 1".
+/// Numbers are decimal digits, at most 2^32 - 1.
 fn read_number(word: &[u8]) -> Result<u32, Why> {
     if !word.iter().all(u8::is_ascii_digit) {
         return Err(Why::NoNumber);
@@ -223,7 +223,7 @@ impl Book {
     fn make(&mut self, call: Call) -> Answer {
         let mut grants = [0; GRANT_WORDS];
         let answer = call.make(&mut self.year, &mut grants);
-        // "for each call a line `ok KW PASSES` or `R NUMBER`".
+        // For each call a line `ok KW PASSES` or `R NUMBER`.
         if answer.refusal != 0 {
             line(&mut self.text, 'R', &[answer.refusal.into()]);
             return answer;
@@ -241,8 +241,8 @@ impl Book {
         answer
     }
 
-    /// "after a granted closing the grants that aren't 0, `G HOLDER INTERTIE
-    /// KW`, by holder and then intertie". Word h·I + i is holder h's on
+    /// After a granted closing the grants that aren't 0, `G HOLDER INTERTIE
+    /// KW`, by holder and then intertie. Word h·I + i is holder h's on
     /// intertie i.
     fn grants(&mut self, grants: &[u32]) {
         let interties = self.year.interties as usize;
@@ -255,8 +255,8 @@ impl Book {
         }
     }
 
-    /// "for each intertie `I intertie limit outside reserved placed taken
-    /// unassigned`". Reserved "is all E, P and N that opening gives on it".
+    /// For each intertie `I intertie limit outside reserved placed taken
+    /// unassigned`. Reserved is all E, P and N that opening gives on it.
     fn interties(&mut self) {
         let year = &self.year;
         for intertie in 0..year.interties as usize {
@@ -274,8 +274,8 @@ impl Book {
         }
     }
 
-    /// "for each holder `H holder step5share bought sold placed unplaced
-    /// reserved locked`".
+    /// For each holder `H holder step5share bought sold placed unplaced
+    /// reserved locked`.
     fn holders(&mut self) {
         let year = &self.year;
         for holder in 0..year.holders as usize {

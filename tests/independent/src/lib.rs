@@ -1,5 +1,6 @@
 //! An assignment year: import capability on interties, assigned to load serving
-//! entities ("holders") in whole kW.
+//! entities (holders) in whole kW, by the rules of the year (docs/RULES.md). It was
+//! written from the rules' text alone; READING.md says how the text was read.
 //!
 //! - [`share_out`]: a pool shared out over claims by weights.
 //! - [`sheet`]: the year's sheet, read and checked.

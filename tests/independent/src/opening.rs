@@ -19,8 +19,8 @@ struct NewUse {
     kw: u64,
 }
 
-/// "Load Share Quantity = T × load share / all load shares, rounded down; 0 if
-/// all are 0."
+/// Load Share Quantity = T × load share / all load shares, rounded down; 0 if
+/// all are 0.
 pub(crate) fn load_share_quantity(total_kw: u64, load_share: u64, all_load_shares: u64) -> u64 {
     (total_kw * load_share)
         .checked_div(all_load_shares)
@@ -54,10 +54,10 @@ impl Year {
             let quantity = record.quantity;
             match record.key.kind {
                 LIMIT => self.limit[intertie] = quantity,
-                // Outside and E together are at most the limit (number 4).
+                // Outside and E together are at most the limit (refusal 4).
                 OUTSIDE_RIGHT => self.outside[intertie] += quantity,
                 LOAD_SHARE => self.load_share[holder] = quantity,
-                // Step 3: "E, the existing contracts per holder and intertie".
+                // Step 3: E, the existing contracts per holder and intertie.
                 EXISTING_CONTRACT => self.existing[intertie][holder] += quantity,
                 PRE_RA_COMMITMENT => pre_ra[intertie][holder] += u64::from(quantity),
                 NEW_USE_COMMITMENT => new_use.push(NewUse {
@@ -69,10 +69,10 @@ impl Year {
                 _ => {}
             }
         }
-        // Step 4b takes "a holder's records by rising rank".
+        // Step 4b takes a holder's records by rising rank.
         new_use.sort_unstable_by_key(|record| (record.holder, record.rank));
 
-        // Step 2: "available = limit - outside rights. T is their sum."
+        // Step 2: available = limit - outside rights. T is their sum.
         // Unassigned starts as available and falls at each step.
         let mut total_kw = 0;
         for intertie in 0..interties {
@@ -131,9 +131,9 @@ impl Year {
         }
     }
 
-    /// Step 4a: "a claim is the part of Pre-RA kW above E at that pair. On each
+    /// Step 4a: a claim is the part of Pre-RA kW above E at that pair. On each
     /// intertie share out what Step 3 left, weights = load shares; this gives
-    /// P."
+    /// P.
     fn step_4a(&mut self, pre_ra: &KwPerPair, weights: &[u64], interties: usize) {
         for (intertie, pre_ra) in pre_ra[..interties].iter().enumerate() {
             let mut claims = [0; MAX_HOLDERS];
@@ -159,8 +159,8 @@ impl Year {
         interties: usize,
         total_kw: u64,
     ) {
-        // The allowance "starts at Load Share Quantity - all its E and P, at
-        // least 0".
+        // The allowance starts at Load Share Quantity - all its E and P, at
+        // least 0.
         let all_load_shares = weights.iter().sum();
         let mut allowance = [0; MAX_HOLDERS];
         for (holder, &load_share) in weights.iter().enumerate() {
@@ -170,7 +170,7 @@ impl Year {
             allowance[holder] = quantity.saturating_sub(used);
         }
 
-        // "what the holder's E there exceeds its Pre-RA kW".
+        // What the holder's E there exceeds its Pre-RA kW.
         let mut cover: KwPerPair = [[0; MAX_HOLDERS]; MAX_INTERTIES];
         for intertie in 0..interties {
             let contracts = self.existing[intertie].iter().zip(&pre_ra[intertie]);
@@ -181,9 +181,9 @@ impl Year {
             }
         }
 
-        // "Each is first covered by what the holder's E there exceeds its
+        // Each is first covered by what the holder's E there exceeds its
         // Pre-RA kW, until used. The rest is cut to the holder's allowance
-        // left, which falls by what stays". "What stays is summed per pair".
+        // left, which falls by what stays. What stays is summed per pair.
         let mut claims: KwPerPair = [[0; MAX_HOLDERS]; MAX_INTERTIES];
         for record in new_use {
             let cover = &mut cover[record.intertie][record.holder];
@@ -194,8 +194,8 @@ impl Year {
             claims[record.intertie][record.holder] += stays;
         }
 
-        // "and shared out with the same weights, from what 4a left on the
-        // intertie; this gives N."
+        // And shared out with the same weights, from what 4a left on the
+        // intertie; this gives N.
         for (intertie, claims) in claims[..interties].iter().enumerate() {
             grant(
                 claims,
@@ -208,7 +208,7 @@ impl Year {
 
     /// Step 5, the share of each holder, and Step 7, its total.
     fn step_5_and_7(&mut self, weights: &[u64], interties: usize, total_kw: u64) {
-        // "held = all of a holder's E, P and N."
+        // Held = all of a holder's E, P and N.
         let mut held = [0; MAX_HOLDERS];
         for (holder, kw) in held[..weights.len()].iter_mut().enumerate() {
             *kw = [&self.existing, &self.pre_ra, &self.new_use]
@@ -217,9 +217,9 @@ impl Year {
                 .sum();
         }
 
-        // "All start eligible. G = T - held of the excluded, V = load shares of
+        // All start eligible. G = T - held of the excluded, V = load shares of
         // the eligible. Exclude together every eligible holder with held × V at
-        // least G × load share; repeat until a round excludes none." Held is at
+        // least G × load share; repeat until a round excludes none. Held is at
         // most 960,000,000 and V at most 3,200,000,000: 64 bits hold both
         // products.
         let mut eligible = [true; MAX_HOLDERS];
@@ -242,16 +242,16 @@ impl Year {
         }
 
         for (holder, &load_share) in weights.iter().enumerate() {
-            // "An eligible holder's share is G × load share / V rounded down,
-            // minus held; others 0." An eligible holder has held × V below
+            // An eligible holder's share is G × load share / V rounded down,
+            // minus held; others 0. An eligible holder has held × V below
             // G × load share, so V is above 0 and nothing falls below 0.
             let share = if eligible[holder] {
                 left_kw * load_share / left_shares - held[holder]
             } else {
                 0
             };
-            // "Step 7 total = held + Step 5 share. Reserved = held"; after
-            // opening "unplaced = Step 5 share". All are at most T.
+            // Step 7 total = held + Step 5 share. Reserved = held; after
+            // opening unplaced = Step 5 share. All are at most T.
             self.step5_share[holder] = share as u32;
             self.unplaced[holder] = share as u32;
             self.reserved[holder] = held[holder] as u32;

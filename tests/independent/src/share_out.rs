@@ -3,25 +3,25 @@
 
 use crate::answer::Answer;
 
-/// "for n holders (0 to 32)".
+/// For n holders (0 to 32).
 pub const MAX_HOLDERS: usize = 32;
-/// "pool over 20,000,000" is refused 9.
+/// Pool over 20,000,000 is refused 9.
 pub const MAX_POOL_KW: u64 = 20_000_000;
-/// "claim over 20,480,000,000" is refused 9.
+/// Claim over 20,480,000,000 is refused 9.
 pub const MAX_CLAIM_KW: u64 = 20_480_000_000;
-/// "weight over 100,000,000" is refused 9.
+/// Weight over 100,000,000 is refused 9.
 pub const MAX_WEIGHT: u64 = 100_000_000;
 
 /// Shares `pool` out over the holders. The grants go into the first n places
 /// of `output`; later places stay, and a refusal writes nothing.
 pub fn share_out(pool: u64, claims: &[u64], weights: &[u64], output: &mut [u64]) -> Answer {
     let n = claims.len();
-    // 5: "share-out lists of unlike length, over 32, or output shorter".
+    // 5: share-out lists of unlike length, over 32, or output shorter.
     if weights.len() != n || n > MAX_HOLDERS || output.len() < n {
         return Answer::refused(5);
     }
-    // 9: "pool over 20,000,000, claim over 20,480,000,000, weight over
-    // 100,000,000".
+    // 9: pool over 20,000,000, claim over 20,480,000,000, weight over
+    // 100,000,000.
     if pool > MAX_POOL_KW
         || claims.iter().any(|&claim| claim > MAX_CLAIM_KW)
         || weights.iter().any(|&weight| weight > MAX_WEIGHT)
@@ -30,7 +30,7 @@ pub fn share_out(pool: u64, claims: &[u64], weights: &[u64], output: &mut [u64])
     }
 
     let grants = &mut output[..n];
-    // "If the claims together are at most the pool, each is met, in 0 passes."
+    // If the claims together are at most the pool, each is met, in 0 passes.
     // At most 32 x 20,480,000,000, far below 64 bits.
     let claimed: u64 = claims.iter().sum();
     if claimed <= pool {
@@ -42,10 +42,10 @@ pub fn share_out(pool: u64, claims: &[u64], weights: &[u64], output: &mut [u64])
     Answer::granted(pool, passes(pool, claims, weights, grants))
 }
 
-/// "Otherwise passes go on until the pool is empty." The claims together pass
+/// Otherwise passes go on until the pool is empty. The claims together pass
 /// the pool and all grants start at 0; answers the passes made.
 fn passes(mut pool: u64, claims: &[u64], weights: &[u64], grants: &mut [u64]) -> u64 {
-    // "A holder is open while its claim is unmet and its weight above 0." The
+    // A holder is open while its claim is unmet and its weight above 0. The
     // open holders, lowest number first, and the sum of their weights.
     let mut places = [0usize; MAX_HOLDERS];
     let mut open = 0;
@@ -60,11 +60,11 @@ fn passes(mut pool: u64, claims: &[u64], weights: &[u64], grants: &mut [u64]) ->
 
     let mut passes = 0;
     while pool > 0 {
-        // "Every pass counts one."
+        // Every pass counts one.
         passes += 1;
 
-        // "With none open, one pass serves the weight-0 claims in holder
-        // order." All other claims are met, and the claims pass the pool, so
+        // With none open, one pass serves the weight-0 claims in holder
+        // order. All other claims are met, and the claims pass the pool, so
         // this empties it.
         if open == 0 {
             for ((grant, &claim), &weight) in grants.iter_mut().zip(claims).zip(weights) {
@@ -76,8 +76,8 @@ fn passes(mut pool: u64, claims: &[u64], weights: &[u64], grants: &mut [u64]) ->
             break;
         }
 
-        // "Each open holder with weight w gets the smaller of its unmet claim
-        // and R·w / W rounded down." R·w is at most 2·10^15.
+        // Each open holder with weight w gets the smaller of its unmet claim
+        // and R·w / W rounded down. R·w is at most 2·10^15.
         let start = pool;
         let all_weights = open_weight;
         let mut still_open = 0;
@@ -99,8 +99,8 @@ fn passes(mut pool: u64, claims: &[u64], weights: &[u64], grants: &mut [u64]) ->
         }
         open = still_open;
 
-        // "If all those are 0, the pass instead gives 1 kW each to open
-        // holders, lowest number first, until the pool is empty." Every
+        // If all those are 0, the pass instead gives 1 kW each to open
+        // holders, lowest number first, until the pool is empty. Every
         // portion below 1 means fewer kW than open holders: nobody was closed
         // above, and the pool is empty after this.
         if pool == start {

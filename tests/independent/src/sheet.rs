@@ -2,15 +2,15 @@
 
 use crate::share_out::MAX_HOLDERS;
 
-/// "I interties (1 to 48)".
+/// I interties (1 to 48).
 pub const MAX_INTERTIES: usize = 48;
-/// "K records (0 to 1,024)".
+/// K records (0 to 1,024).
 pub const MAX_RECORDS: usize = 1_024;
 /// The largest limit and the largest kW of a record.
 pub const MAX_KW: u32 = 20_000_000;
 /// The largest load share of a holder.
 pub const MAX_LOAD_SHARE: u32 = 100_000_000;
-/// "Years, 1 to 30, count this year."
+/// Years, 1 to 30, count this year.
 pub const MAX_YEARS: u32 = 30;
 /// Ranks of New Use commitments are 1 to 255.
 pub const MAX_RANK: u32 = 255;
@@ -29,8 +29,8 @@ pub const EXISTING_CONTRACT: u32 = 4;
 pub const PRE_RA_COMMITMENT: u32 = 5;
 pub const NEW_USE_COMMITMENT: u32 = 6;
 
-/// The fields of a key: "kind + 16·holder + 1,024·intertie + 65,536·rank +
-/// 16,777,216·years; the widths are 4, 6, 6, 8 and 8 bits".
+/// The fields of a key: kind + 16·holder + 1,024·intertie + 65,536·rank +
+/// 16,777,216·years; the widths are 4, 6, 6, 8 and 8 bits.
 #[derive(Clone, Copy, Debug, PartialEq, Eq)]
 pub struct Key {
     pub kind: u32,
@@ -58,14 +58,14 @@ impl Key {
     }
 }
 
-/// "The sheet is read record by record, key and quantity together."
+/// The sheet is read record by record, key and quantity together.
 #[derive(Clone, Copy, Debug, PartialEq, Eq)]
 pub struct Record {
     pub key: Key,
     pub quantity: u32,
 }
 
-/// A sheet that none of the numbers 1 to 4 refuses.
+/// A sheet that none of the refusals 1 to 4 refuses.
 #[derive(Clone, Copy, Debug)]
 pub struct Sheet<'a> {
     pub interties: usize,
@@ -77,7 +77,7 @@ pub struct Sheet<'a> {
 impl<'a> Sheet<'a> {
     /// Reads a sheet from any bytes; the error is its refusal number, 1 to 4.
     pub fn read(bytes: &'a [u8]) -> Result<Self, u32> {
-        // 1: "sheet under 12 bytes, K over 1,024, length not 12 + 8·K".
+        // 1: sheet under 12 bytes, K over 1,024, length not 12 + 8·K.
         let Some((header, records)) = bytes.split_at_checked(HEADER_BYTES) else {
             return Err(1);
         };
@@ -86,7 +86,7 @@ impl<'a> Sheet<'a> {
             return Err(1);
         }
 
-        // 2: "I or H out of range".
+        // 2: I or H out of range.
         let interties = word(&header[0..4]) as usize;
         let holders = word(&header[4..8]) as usize;
         if !(1..=MAX_INTERTIES).contains(&interties) || !(1..=MAX_HOLDERS).contains(&holders) {
@@ -114,8 +114,8 @@ impl<'a> Sheet<'a> {
         })
     }
 
-    /// Numbers 3, "the records break a rule of the sheet", and 4, "outside + E
-    /// above a limit".
+    /// Refusals 3, the records break a rule of the sheet, and 4, outside + E
+    /// above a limit.
     fn check_records(&self) -> Result<(), u32> {
         let mut limits = [None; MAX_INTERTIES];
         let mut outside_and_existing = [0u64; MAX_INTERTIES];
@@ -131,11 +131,11 @@ impl<'a> Sheet<'a> {
             let holder = key.holder as usize;
             let intertie = key.intertie as usize;
             let twice = match key.kind {
-                // "exactly one for each": none missing is tested below.
+                // Exactly one for each: none missing is tested below.
                 LIMIT => limits[intertie].replace(quantity).is_some(),
-                // "at most one each".
+                // At most one each.
                 LOAD_SHARE => std::mem::replace(&mut has_load_share[holder], true),
-                // "no rank twice for a holder".
+                // No rank twice for a holder.
                 NEW_USE_COMMITMENT => {
                     let seen = &mut rank_holders[key.rank as usize];
                     let before = std::mem::replace(seen, *seen | 1 << holder);
@@ -164,9 +164,9 @@ impl<'a> Sheet<'a> {
         Ok(())
     }
 
-    /// Whether a record keeps the rules that look at no other record. "A field
-    /// a kind doesn't name is 0"; "a holder from H up and an intertie from I up
-    /// break the rules".
+    /// Whether a record keeps the rules that look at no other record. A field
+    /// a kind doesn't name is 0; a holder from H up and an intertie from I up
+    /// break the rules.
     fn stands_alone(&self, record: Record) -> bool {
         let Record { key, quantity } = record;
         let Key {
@@ -179,7 +179,7 @@ impl<'a> Sheet<'a> {
         if holder as usize >= self.holders || intertie as usize >= self.interties {
             return false;
         }
-        // "Kinds 2, 4, 5, 6 have 1 to 20,000,000 kW".
+        // Kinds 2, 4, 5, 6 have 1 to 20,000,000 kW.
         let kw_stands = (1..=MAX_KW).contains(&quantity);
         let years_stand = (1..=MAX_YEARS).contains(&years);
         match kind {
@@ -189,7 +189,7 @@ impl<'a> Sheet<'a> {
             EXISTING_CONTRACT | PRE_RA_COMMITMENT => rank == 0 && years_stand && kw_stands,
             // Eight bits hold a rank, so it is never above 255.
             NEW_USE_COMMITMENT => rank >= 1 && years_stand && kw_stands,
-            // "Kinds 0 and 7 to 15 ... break the rules."
+            // Kinds 0 and 7 to 15 break the rules.
             _ => false,
         }
     }

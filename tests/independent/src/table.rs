@@ -12,15 +12,15 @@ pub const MOST: [u32; 6] = [15, 63, 63, 255, 255, u32::MAX];
 /// Why a field is bad.
 #[derive(Clone, Copy, Debug, PartialEq, Eq)]
 pub enum Why {
-    /// "not a number or kind".
+    /// Not a number or kind.
     NoNumber,
-    /// "too large for its field".
+    /// Too large for its field.
     TooLarge,
-    /// "a field missing".
+    /// A field missing.
     Missing,
-    /// One "too many".
+    /// One too many.
     Surplus,
-    /// "over 1,024 records".
+    /// Over 1,024 records.
     TooManyRecords,
 }
 
@@ -32,7 +32,7 @@ pub struct Fault {
     pub why: Why,
 }
 
-/// The table of a sheet's bytes, "for any bytes that number 1 lets pass"; none
+/// The table of a sheet's bytes, for any bytes that refusal 1 lets pass; none
 /// for others.
 pub fn print(bytes: &[u8]) -> Option<String> {
     let (header, records) = bytes.split_at_checked(HEADER_BYTES)?;
@@ -50,7 +50,7 @@ pub fn print(bytes: &[u8]) -> Option<String> {
             rank,
             years,
         } = Key::from_word(word(key));
-        // "kinds 1 to 6 by name, others by number".
+        // Kinds 1 to 6 by name, others by number.
         let kind = match kind {
             1..=6 => NAMES[kind as usize - 1].to_string(),
             _ => kind.to_string(),
@@ -63,8 +63,8 @@ pub fn print(bytes: &[u8]) -> Option<String> {
 
 /// The bytes of a table's sheet.
 pub fn read(text: &[u8]) -> Result<Vec<u8>, Fault> {
-    // "lines end by newline or the end; one carriage return before the line end
-    // is dropped".
+    // Lines end by newline or the end; one carriage return before the line end
+    // is dropped.
     let lines = text
         .split(|&byte| byte == b'\n')
         .map(|line| line.strip_suffix(b"\r").unwrap_or(line));
@@ -124,7 +124,7 @@ fn fields<const COUNT: usize>(
     }
 }
 
-/// "kind by number (0 to 15) or by name for 1 to 6".
+/// Kind by number (0 to 15) or by name for 1 to 6.
 fn read_kind(field: &[u8]) -> Result<u32, Why> {
     match (1..).zip(NAMES).find(|(_, name)| name.as_bytes() == field) {
         Some((kind, _)) => Ok(kind),

@@ -5,13 +5,13 @@ use std::ops::RangeInclusive;
 use crate::share_out::MAX_HOLDERS;
 use crate::sheet::{MAX_INTERTIES, MAX_KW, MAX_LOAD_SHARE, MAX_YEARS};
 
-/// "16,000 lent 32-bit words"; fewer are refused 5.
+/// 16,000 lent 32-bit words; fewer are refused 5.
 pub const STATE_WORDS: usize = 16_000;
-/// Number 5 refuses "grants under 1,536".
+/// Refusal 5 refuses grants under 1,536.
 pub const GRANT_WORDS: usize = MAX_INTERTIES * MAX_HOLDERS;
 /// The most that Step 5 share, Step 7 total, reserved and all unplaced may be.
 pub const MAX_TOTAL_KW: u32 = 960_000_000;
-/// "Two granted takings per holder and week".
+/// Two granted takings per holder and week.
 pub const MAX_TAKINGS: u32 = 2;
 
 /// The stages of the year.
@@ -100,7 +100,7 @@ impl Year {
     /// Whether the state is orderly, for any words. The sizes are tested before
     /// anything is indexed.
     pub fn is_orderly(&self) -> bool {
-        // "sizes and stage in range".
+        // Sizes and stage in range.
         let interties = self.interties as usize;
         let holders = self.holders as usize;
         (1..=MAX_INTERTIES).contains(&interties)
@@ -119,7 +119,7 @@ impl Year {
             .iter()
             .map(|&kw| u64::from(kw))
             .sum();
-        // "sellers are holders below H": no bit from H up.
+        // Sellers are holders below H: no bit from H up.
         let strangers = u32::MAX.checked_shl(self.holders).unwrap_or(0);
         all_at_most(&self.load_share, MAX_LOAD_SHARE)
             && unplaced <= u64::from(MAX_TOTAL_KW)
@@ -132,7 +132,7 @@ impl Year {
                 .all(|&mask| mask & strangers == 0)
     }
 
-    /// "limit = outside + E + P + N + placed + taken + unassigned", all added in
+    /// Limit = outside + E + P + N + placed + taken + unassigned, all added in
     /// 64 bits, with the limit in range.
     fn intertie_balances(&self, intertie: usize, holders: usize) -> bool {
         let existing = &self.existing[intertie][..holders];
@@ -152,8 +152,8 @@ impl Year {
         limit <= MAX_KW && used == u64::from(limit)
     }
 
-    /// "locked at most placed"; "a lock term is 1 to 30 where locked is above 0,
-    /// else 0".
+    /// Locked at most placed; a lock term is 1 to 30 where locked is above 0,
+    /// else 0.
     fn locks_are_orderly(&self, intertie: usize, holders: usize) -> bool {
         let placed = &self.placed[intertie][..holders];
         let locked = &self.locked[intertie][..holders];
@@ -169,7 +169,7 @@ impl Year {
         })
     }
 
-    /// "each holder's pending at most its unplaced, and 0 in stages 1 and 4".
+    /// Each holder's pending at most its unplaced, and 0 in stages 1 and 4.
     fn pending_is_orderly(&self, interties: usize, holders: usize) -> bool {
         let pending = &self.pending[..interties];
         if !(FIRST_REQUESTS..=SECOND_REQUESTS).contains(&self.stage) {
@@ -185,8 +185,8 @@ impl Year {
         sums.all(|(&sum, &unplaced)| sum <= u64::from(unplaced))
     }
 
-    /// What every call asks first: 5, "state under 16,000 words"; 6, "state not
-    /// orderly"; 7, "call not of this stage".
+    /// What every call asks first: 5, state under 16,000 words; 6, state not
+    /// orderly; 7, call not of this stage.
     pub(crate) fn check(&self, words: usize, stages: RangeInclusive<u32>) -> Result<(), u32> {
         if words < STATE_WORDS {
             Err(5)
