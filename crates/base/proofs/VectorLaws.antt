@@ -1,6 +1,7 @@
 -- A row that is written word by word, a number that is lowered term by term, and lists that are parts of others.
 use Prim.Native.Nat.{ℕ, _+_, _-_, _%_, _^_, _≤_, _<_, zero-le}
 use mathlib.Core.Path.{_≡_, refl, sym, ap, _∙_}
+use mathlib.Core.Bool.{Bool}
 use mathlib.Core.List.{List, _++_}
 use native.Mathlib.Nat.{le-refl, mod-eq-of-lt, mod-add-mod, sub-zero}
 use native.Mathlib.Decide.{decLt}
@@ -8,9 +9,9 @@ use native.Mathlib.Omega.{arith}
 use lib.ListN.{length, set, take, drop, length-set, List·getD-append, List·getD-eq-default}
 use lib.Seq.{ext-getD, getD-append-add, getD-take, getD-drop, length-take-le}
 use borrow.Rule.Slice.PartMut.{midOf, putMid, mid-len}
-use Rattle.base.specs.Sums.{sumTo}
+use Rattle.base.specs.Sums.{sumTo, allTo}
 use Rattle.base.specs.Words.{at, tab, fill}
-use Rattle.base.proofs.SumLaws.{sumTo-zero, sumTo-more, sumTo-same}
+use Rattle.base.proofs.SumLaws.{sumTo-zero, sumTo-more, sumTo-same, allTo-same}
 use Rattle.base.proofs.WordLaws.{fill-zero, fill-turn, fill-whole, at-fill, at-fill-past, length-fill, at-tab, length-tab, tab-same, tab-at}
 
 -- the first c words of a row are those of f, the others as they were
@@ -122,6 +123,20 @@ sum-part a e n l end inside =
     let size : length (midOf a (e - a) l) ≡ n = mid-len a e l inside ∙ (omega arith) in
     ap (λ k. sumTo k (at (midOf a (e - a) l))) size
     ∙ sumTo-same n (at (midOf a (e - a) l)) (λ c. at l (a + c)) (λ c h. at-mid a (e - a) l c (omega arith))
+
+-- a test of every number of such a part, and of the first n numbers
+pub all-part : (a e n : ℕ) (l : List ℕ) (p : ℕ → Bool) → e ≡ a + n → e ≤ length l →
+    allTo (length (midOf a (e - a) l)) (λ c. p (at (midOf a (e - a) l) c)) ≡ allTo n (λ c. p (at l (a + c)))
+all-part a e n l p end inside =
+    let size : length (midOf a (e - a) l) ≡ n = mid-len a e l inside ∙ (omega arith) in
+    ap (λ k. allTo k (λ c. p (at (midOf a (e - a) l) c))) size
+    ∙ allTo-same n (λ c. p (at (midOf a (e - a) l) c)) (λ c. p (at l (a + c))) (λ c h. ap p (at-mid a (e - a) l c (omega arith)))
+
+pub all-front : (n : ℕ) (l : List ℕ) (p : ℕ → Bool) → n ≤ length l →
+    allTo (length (take n l)) (λ c. p (at (take n l) c)) ≡ allTo n (λ c. p (at l c))
+all-front n l p inside =
+    ap (λ k. allTo k (λ c. p (at (take n l) c))) (length-take-le n l inside)
+    ∙ allTo-same n (λ c. p (at (take n l) c)) (λ c. p (at l c)) (λ c h. ap p (getD-take n l c 0 h))
 
 -- a row off which a part as long as it is taken
 pub off-part : (a e : ℕ) (l row : List ℕ) → e ≡ a + length row →

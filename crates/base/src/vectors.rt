@@ -1,11 +1,13 @@
-// Lists of numbers, word by word: cleared, added up, taken off one another. A caller lends the very words that are meant.
+// Lists of numbers, word by word: cleared, tested, added up, taken off one another. A caller lends the very words that are
+// meant.
 use crate::numbers::excess;
 use crate::numbers::shorter;
 use std::num::wrapping_add_u64;
 ghost use mathlib.Core.Path.{_≡_};
 ghost use Prim.Native.Nat.{ℕ, _-_, _%_, _^_};
+ghost use lib.Dec.{leb};
 ghost use lib.ListN.{length};
-ghost use Rattle.base.specs.Sums.{sumTo};
+ghost use Rattle.base.specs.Sums.{sumTo, allTo};
 ghost use Rattle.base.specs.Words.{at, tab};
 
 // Makes every number 0.
@@ -17,6 +19,19 @@ pub fn clear(list: &mut [u64])
         list[c] = 0;
         c += 1;
     }
+}
+
+// Whether every number is within a most.
+pub fn all_within(list: &[u64], most: u64) -> bool
+    ensures { λ r. ⌜ r ≡ allTo (length (now (list .entry))) (λ (c : ℕ). leb (at (now (list .entry)) c) most) ⌝ }
+{
+    let mut within = true;
+    let mut c = 0;
+    while c < list.len() {
+        within = within & (list[c] <= most);
+        c += 1;
+    }
+    within
 }
 
 // The sum of the numbers, modulo 2^64.

@@ -8,7 +8,7 @@ use lib.Dec.{eqb}
 use Rattle.base.specs.Sums.{sumTo}
 use Rattle.base.proofs.ChoiceLaws.{pick-by}
 use Rattle.base.proofs.SumLaws.{sumTo-same, sumTo-le, sumTo-scale}
-use Rattle.intertie_shares.specs.Rule.{onIntertie, grantOn}
+use Rattle.intertie_shares.specs.Rule.{shareOutOn, grantOn}
 use Rattle.intertie_shares.proofs.HolderLaws.{Ranged, Made}
 use Rattle.intertie_shares.proofs.IntertieLaws.{made-on}
 use Rattle.state.specs.Layout.{interties, holders, loadShareOf, stageOf, unassignedOf, sellersOf, pendingOf}
@@ -59,12 +59,12 @@ module _ {s : List ℕ} (o : Orderly s) where
       }
 
   closing-made : (i : ℕ) → i < interties s →
-      Made (holders s) (unassignedOf s i) (λ h. pendingOf s h i) (onIntertie (holders s) (unassignedOf s) (pendingOf s) (weightOf s) i)
+      Made (holders s) (unassignedOf s i) (λ h. pendingOf s h i) (shareOutOn (holders s) (unassignedOf s) (pendingOf s) (weightOf s) i)
   closing-made i l = made-on (holders s) (unassignedOf s) (pendingOf s) (weightOf s) i (closing-ranged i l)
 
   -- no share-out of a closing is refused
   pub closing-accepted : (i : ℕ) → i < interties s →
-      onIntertie (holders s) (unassignedOf s) (pendingOf s) (weightOf s) i .answer .refusal ≡ 0
+      shareOutOn (holders s) (unassignedOf s) (pendingOf s) (weightOf s) i .answer .refusal ≡ 0
   closing-accepted i l = closing-made i l .accepted
 
   -- what a closing grants on an intertie, in stages 1 to 3: all that is pending there, or all that is unassigned where that is less. So nothing that could be granted is left. In stage 1 nothing is pending, and both are 0.

@@ -8,7 +8,7 @@ use Rattle.base.specs.Sums.{sumTo}
 use Rattle.base.proofs.ChoiceLaws.{pick-by, sumTo-pick}
 use Rattle.base.proofs.SumLaws.{sumTo-same, sumTo-le, sumTo-zeros}
 use Rattle.intertie_shares.specs.Pairs.{atPair}
-use Rattle.intertie_shares.specs.Rule.{onIntertie, grantOn}
+use Rattle.intertie_shares.specs.Rule.{shareOutOn, grantOn}
 use Rattle.state.specs.Layout.{interties, holders, unassignedOf, unplacedOf, pendingOf}
 use Rattle.state.proofs.OrderlyLaws.{Orderly}
 use Rattle.closing.specs.Weight.{weightOf}
@@ -19,7 +19,7 @@ use Rattle.closing.proofs.UniformLaws.{shared-kept}
 module _ (s : List ℕ) where
   -- the kW that the share-out on intertie i answers
   abbrev sharedKw : ℕ → ℕ
-  sharedKw i = onIntertie (holders s) (unassignedOf s) (pendingOf s) (weightOf s) i .answer .kw
+  sharedKw i = shareOutOn (holders s) (unassignedOf s) (pendingOf s) (weightOf s) i .answer .kw
 
   -- no grant is above what is pending
   pub grant-within : (h i : ℕ) → h < holders s → closeGrant s h i ≤ pendingOf s h i

@@ -12,8 +12,8 @@ use Rattle.base.proofs.WordLaws.{at-fill, length-fill}
 use Rattle.share_out.specs.Rule.{Outcome}
 use Rattle.intertie_shares.specs.Pairs.{atPair}
 use Rattle.intertie_shares.specs.Rule.{grantOn, overInterties, shareOutEach}
-use Rattle.intertie_shares.specs.Fit.{Sized}
-use Rattle.intertie_shares.proofs.PairLaws.{at-fillPairs}
+use Rattle.intertie_shares.specs.Workers.Fit.{Sized}
+use Rattle.intertie_shares.proofs.PairLaws.{at-fillTable}
 use Rattle.intertie_shares.proofs.OutcomeLaws.{each-done}
 use Rattle.intertie_shares.proofs.Promise.{Promise, promise, over-same}
 use Rattle.state.specs.Layout.{place, interties, holders, stageOf, unassignedOf, pendingOf}
@@ -44,7 +44,7 @@ module _ (s : List ℕ) (o : Orderly s) (most : stageOf s ≤ 3) (pools claims w
   grant-is : (h i : ℕ) → h < holders s → i < interties s → atPair (out .output) h i ≡ closeGrant s h i
   grant-is h i k l =
       ap (λ (r : Outcome). atPair (r .output) h i) same
-      ∙ at-fillPairs (holders s) (grantOn (holders s) (unassignedOf s) (pendingOf s) (weightOf s)) table (interties s) h i k l
+      ∙ at-fillTable (holders s) (grantOn (holders s) (unassignedOf s) (pendingOf s) (weightOf s)) table (interties s) h i k l
       (fit .holders) (fit .interties) (fit .room)
       ∙ sym (uniform-grant s o most h i k l)
 

@@ -10,7 +10,7 @@ use borrow.Author.Tests.{eqb-false}
 use Rattle.base.specs.Words.{at}
 use Rattle.base.proofs.ChoiceLaws.{pick-by, or-left, or-right}
 use Rattle.base.proofs.SumLaws.{sumTo-zeros}
-use Rattle.intertie_shares.specs.Rule.{onIntertie, grantOn, kwOver, passesOver}
+use Rattle.intertie_shares.specs.Rule.{shareOutOn, grantOn, kwOver, passesOver}
 use Rattle.intertie_shares.proofs.HolderLaws.{Kept}
 use Rattle.intertie_shares.proofs.IntertieLaws.{kept-on, passes-most}
 use Rattle.state.specs.Layout.{interties, holders, stageOf, unassignedOf, pendingOf}
@@ -19,7 +19,7 @@ use Rattle.closing.specs.Weight.{weightOf}
 use Rattle.closing.specs.Close.{sharesOut, closeGrant, closeKw, closePasses}
 
 -- what the share-out on intertie i keeps
-pub shared-kept : (s : List ℕ) (i : ℕ) → Kept (holders s) (unassignedOf s i) (λ h. pendingOf s h i) (onIntertie (holders s) (unassignedOf s) (pendingOf s) (weightOf s) i)
+pub shared-kept : (s : List ℕ) (i : ℕ) → Kept (holders s) (unassignedOf s i) (λ h. pendingOf s h i) (shareOutOn (holders s) (unassignedOf s) (pendingOf s) (weightOf s) i)
 shared-kept s i = kept-on (holders s) (unassignedOf s) (pendingOf s) (weightOf s) i
 
 module _ (s : List ℕ) (o : Orderly s) (most : stageOf s ≤ 3) where
@@ -37,10 +37,10 @@ module _ (s : List ℕ) (o : Orderly s) (most : stageOf s ≤ 3) where
 
   no-kw : sharesOut s ≡ false → kwOver (holders s) (unassignedOf s) (pendingOf s) (weightOf s) (interties s) ≡ 0
   no-kw f =
-      sumTo-zeros (interties s) (λ i. onIntertie (holders s) (unassignedOf s) (pendingOf s) (weightOf s) i .answer .kw)
+      sumTo-zeros (interties s) (λ i. shareOutOn (holders s) (unassignedOf s) (pendingOf s) (weightOf s) i .answer .kw)
       (λ i q.
       shared-kept s i .kw
-      ∙ sumTo-zeros (holders s) (at (onIntertie (holders s) (unassignedOf s) (pendingOf s) (weightOf s) i .output)) (λ h p. no-grant f h i p q))
+      ∙ sumTo-zeros (holders s) (at (shareOutOn (holders s) (unassignedOf s) (pendingOf s) (weightOf s) i .output)) (λ h p. no-grant f h i p q))
 
   no-passes : sharesOut s ≡ false → passesOver (holders s) (unassignedOf s) (pendingOf s) (weightOf s) (interties s) ≡ 0
   no-passes f = omega (arith, passes-most (holders s) (unassignedOf s) (pendingOf s) (weightOf s) (interties s), no-kw f)

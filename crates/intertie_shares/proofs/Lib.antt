@@ -1,4 +1,3 @@
-pub mod BaseMore
 pub mod PairLaws
 pub mod HolderLaws
 pub mod IntertieLaws

@@ -14,13 +14,12 @@ use Rattle.base.specs.Words.{at, tab, fill}
 use Rattle.base.specs.Answers.{refused, granted}
 use Rattle.base.specs.declared.Answer.{Answer}
 use Rattle.base.proofs.SumLaws.{sumTo-zero, sumTo-more, sumTo-mono, sumTo-term, allTo-each}
-use Rattle.base.proofs.WordLaws.{length-tab, at-tab, fill-zero, fill-turn, fill-whole}
+use Rattle.base.proofs.WordLaws.{take-tab, length-tab, at-tab, fill-zero, fill-turn, fill-whole}
 use Rattle.share_out.specs.Rule.{Outcome, shared, unfitLengths, unfitNumbers, sharedAnswer, shareOut}
-use Rattle.intertie_shares.specs.Pairs.{place, atPair, column, fillColumn, fillPairs}
-use Rattle.intertie_shares.specs.Rule.{amongHolders, onIntertie, grantOn, kwOver, passesOver, shareOutEach}
-use Rattle.intertie_shares.specs.Fit.{Sized, SharedOn}
-use Rattle.intertie_shares.proofs.BaseMore.{take-tab}
-use Rattle.intertie_shares.proofs.PairLaws.{fillColumn-zero, fillColumn-more, fillColumn-same, length-fillColumn, fillPairs-zero, fillPairs-more}
+use Rattle.intertie_shares.specs.Pairs.{pairAt, atPair, column, fillColumn, fillTable}
+use Rattle.intertie_shares.specs.Rule.{amongHolders, shareOutOn, grantOn, kwOver, passesOver, shareOutEach}
+use Rattle.intertie_shares.specs.Workers.Fit.{Sized, SharedOn}
+use Rattle.intertie_shares.proofs.PairLaws.{fillColumn-zero, fillColumn-more, fillColumn-same, length-fillColumn, fillTable-zero, fillTable-more}
 use Rattle.intertie_shares.proofs.HolderLaws.{Ranged, among-fits}
 use Rattle.intertie_shares.proofs.IntertieLaws.{kept-on, kw-most, passes-most}
 use Rattle.intertie_shares.proofs.OutcomeLaws.{each-done}
@@ -59,11 +58,11 @@ module _ (i n : ℕ) (f : ℕ → ℕ) (first : List ℕ) where
   scattered-none = record { inside = zero-le; size = refl; written = sym (fillColumn-zero i f first) }
 
   pub scattered-next : (table : List ℕ) (h : ℕ) → Scattered i n f first table h → h < n →
-      Scattered i n f first (set table (place h i) (f h)) (h + 1)
+      Scattered i n f first (set table (pairAt h i) (f h)) (h + 1)
   scattered-next table h s l =
       record {
         inside = omega arith;
-        size = length-set table (place h i) (f h) ∙ s .size;
+        size = length-set table (pairAt h i) (f h) ∙ s .size;
         written = rw (s .written) (sym (fillColumn-more i f first h));
       }
 
@@ -112,10 +111,10 @@ shared-on i H pools claims weights claimed before output after-it grants after r
     let empty : List ℕ = tab H (λ h. 0) in
     let made : Outcome = shareOut (at pools i) claimed (take (length claimed) weights) before in
     let s = settled (at pools i) claimed (take (length claimed) weights) before empty (room ∙ sym n) (length-tab H (λ h. 0) ∙ sym n) in
-    let same : shareOut (at pools i) claimed (take (length claimed) weights) empty ≡ onIntertie H (at pools) (atPair claims) (at weights) i =
+    let same : shareOut (at pools i) claimed (take (length claimed) weights) empty ≡ shareOutOn H (at pools) (atPair claims) (at weights) i =
     rw (n, take-tab H weights enough, c) in
     let cleared : after-it ≡ pick (eqb (r .refusal) 0) output empty = rw size at f in
-    let out : after-it ≡ onIntertie H (at pools) (atPair claims) (at weights) i .output =
+    let out : after-it ≡ shareOutOn H (at pools) (atPair claims) (at weights) i .output =
     cleared
     ∙ ap (λ (x : Answer). pick (eqb (x .refusal) 0) output empty) (o .0)
     ∙ ap (λ (l : List ℕ). pick (eqb (made .answer .refusal) 0) l empty) (o .1)
@@ -163,7 +162,7 @@ met-on i H total pools claims weights grants after r few small light t fit a g =
       claimed = λ h l. omega (arith, sumTo-term H (λ h. atPair claims h i) h l);
       weighed = λ h l. leb-true (at weights h) 100000000 (allTo-each H (λ h. leb (at weights h) 100000000) light h l);
     } in
-    let met : onIntertie H (at pools) (atPair claims) (at weights) i ≡ record { answer = granted (sumTo H (λ h. atPair claims h i)) 0; output = column claims H i } =
+    let met : shareOutOn H (at pools) (atPair claims) (at weights) i ≡ record { answer = granted (sumTo H (λ h. atPair claims h i)) 0; output = column claims H i } =
     among-fits H (at pools i) (λ h. atPair claims h i) (at weights) ranged within in
     record {
       answer = g ∙ rw (all, met);
@@ -176,12 +175,12 @@ pub record Over (I H : ℕ) (pools claims weights first grants : List ℕ) (k p 
   pub size : length grants ≡ length first
   pub kw : k ≡ kwOver H (at pools) (atPair claims) (at weights) i
   pub passes : p ≡ passesOver H (at pools) (atPair claims) (at weights) i
-  pub written : grants ≡ fillPairs i H (grantOn H (at pools) (atPair claims) (at weights)) first
+  pub written : grants ≡ fillTable i H (grantOn H (at pools) (atPair claims) (at weights)) first
 
 module _ (I H : ℕ) (pools claims weights first : List ℕ) where
   -- the share-out on intertie i
   abbrev on : ℕ → Outcome
-  on i = onIntertie H (at pools) (atPair claims) (at weights) i
+  on i = shareOutOn H (at pools) (atPair claims) (at weights) i
 
   pub over-none : Over I H pools claims weights first first 0 0 0
   over-none =
@@ -190,7 +189,7 @@ module _ (I H : ℕ) (pools claims weights first : List ℕ) where
         size = refl;
         kw = sym (sumTo-zero (λ i. on i .answer .kw));
         passes = sym (sumTo-zero (λ i. on i .answer .passes));
-        written = sym (fillPairs-zero H (grantOn H (at pools) (atPair claims) (at weights)) first);
+        written = sym (fillTable-zero H (grantOn H (at pools) (atPair claims) (at weights)) first);
       }
 
   -- one intertie more
@@ -209,7 +208,7 @@ module _ (I H : ℕ) (pools claims weights first : List ℕ) where
           size = ap (λ t. length t) (d .column) ∙ length-fillColumn i (at (on i .output)) grants H ∙ s .size;
           kw = kw-next;
           passes = passes-next;
-          written = d .column ∙ rw (s .written) (sym (fillPairs-more H (grantOn H (at pools) (atPair claims) (at weights)) first i));
+          written = d .column ∙ rw (s .written) (sym (fillTable-more H (grantOn H (at pools) (atPair claims) (at weights)) first i));
         }
 
     -- the sums stay within 48 pools

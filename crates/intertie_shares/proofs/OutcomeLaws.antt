@@ -11,7 +11,7 @@ use Rattle.base.specs.Answers.{refused}
 use Rattle.base.proofs.ChoiceLaws.{or-left, or-right}
 use Rattle.intertie_shares.specs.Pairs.{atPair}
 use Rattle.intertie_shares.specs.Rule.{overInterties, unfitSizes, shareOutEach}
-use Rattle.intertie_shares.specs.Fit.{Sized}
+use Rattle.intertie_shares.specs.Workers.Fit.{Sized}
 
 -- number 5 as its six tests
 pub fit-sizes : (I H : ℕ) (pools claims weights grants : List ℕ) →

@@ -9,10 +9,10 @@ use Rattle.base.specs.Sums.{sumTo}
 use Rattle.base.specs.Words.{at}
 use Rattle.base.proofs.SumLaws.{sumTo-same, sumTo-term}
 use Rattle.share_out.specs.Rule.{Outcome}
-use Rattle.intertie_shares.specs.Pairs.{place, atPair, fillPairs}
-use Rattle.intertie_shares.specs.Rule.{onIntertie, grantOn, kwOver, passesOver, overInterties, shareOutEach}
-use Rattle.intertie_shares.specs.Fit.{Sized}
-use Rattle.intertie_shares.proofs.PairLaws.{length-fillPairs, at-fillPairs, at-fillPairs-other, fillPairs-same}
+use Rattle.intertie_shares.specs.Pairs.{pairAt, atPair, fillTable}
+use Rattle.intertie_shares.specs.Rule.{shareOutOn, grantOn, kwOver, passesOver, overInterties, shareOutEach}
+use Rattle.intertie_shares.specs.Workers.Fit.{Sized}
+use Rattle.intertie_shares.proofs.PairLaws.{length-fillTable, at-fillTable, at-fillTable-other, fillTable-same}
 use Rattle.intertie_shares.proofs.HolderLaws.{Kept, among-same, Ranged}
 use Rattle.intertie_shares.proofs.IntertieLaws.{kept-on, made-on, kw-most, passes-most}
 use Rattle.intertie_shares.proofs.OutcomeLaws.{each-done}
@@ -35,22 +35,22 @@ pub record Promise (I H : ℕ) (pools claims grants : List ℕ) (o : Outcome) : 
   -- every pass gives at least 1 kW
   pub counted : o .answer .passes ≤ o .answer .kw
   -- every other word stays
-  pub stays : (p : ℕ) → ((h i : ℕ) → h < H → i < I → p ≢ place h i) → at (o .output) p ≡ at grants p
+  pub stays : (p : ℕ) → ((h i : ℕ) → h < H → i < I → p ≢ pairAt h i) → at (o .output) p ≡ at grants p
 
 module _ (I H : ℕ) (pools claims weights grants : List ℕ) (fit : Sized I H pools claims weights grants) where
-  keeps : (i : ℕ) → Kept H (at pools i) (λ h. atPair claims h i) (onIntertie H (at pools) (atPair claims) (at weights) i)
+  keeps : (i : ℕ) → Kept H (at pools i) (λ h. atPair claims h i) (shareOutOn H (at pools) (atPair claims) (at weights) i)
   keeps i = kept-on H (at pools) (atPair claims) (at weights) i
 
   -- a pair's word is its grant
   pub grant-at : (h i : ℕ) → h < H → i < I → atPair (shareOutEach I H pools claims weights grants .output) h i ≡ grantOn H (at pools) (atPair claims) (at weights) h i
   grant-at h i k l =
       ap (λ (o : Outcome). atPair (o .output) h i) (each-done I H pools claims weights grants fit)
-      ∙ at-fillPairs H (grantOn H (at pools) (atPair claims) (at weights)) grants I h i k l (fit .holders) (fit .interties) (fit .room)
+      ∙ at-fillTable H (grantOn H (at pools) (atPair claims) (at weights)) grants I h i k l (fit .holders) (fit .interties) (fit .room)
 
   -- an intertie's grants together are the kW that its share-out answers
   pub intertie-kw : (i : ℕ) → i < I →
-      sumTo H (λ h. atPair (shareOutEach I H pools claims weights grants .output) h i) ≡ onIntertie H (at pools) (atPair claims) (at weights) i .answer .kw
-  intertie-kw i l = sumTo-same H _ (at (onIntertie H (at pools) (atPair claims) (at weights) i .output)) (λ h k. grant-at h i k l) ∙ sym (keeps i .kw)
+      sumTo H (λ h. atPair (shareOutEach I H pools claims weights grants .output) h i) ≡ shareOutOn H (at pools) (atPair claims) (at weights) i .answer .kw
+  intertie-kw i l = sumTo-same H _ (at (shareOutOn H (at pools) (atPair claims) (at weights) i .output)) (λ h k. grant-at h i k l) ∙ sym (keeps i .kw)
 
   -- where its numbers are in range, the smaller of the pool and the claims together
   pub intertie-total : (i : ℕ) → i < I → Ranged H (at pools i) (λ h. atPair claims h i) (at weights) →
@@ -67,7 +67,7 @@ module _ (I H : ℕ) (pools claims weights grants : List ℕ) (fit : Sized I H p
       ap (λ (o : Outcome). o .answer .passes) done in
       record {
         accepted = ap (λ (o : Outcome). o .answer .refusal) done;
-        size = rw done (length-fillPairs H (grantOn H (at pools) (atPair claims) (at weights)) grants I);
+        size = rw done (length-fillTable H (grantOn H (at pools) (atPair claims) (at weights)) grants I);
         within = λ h i k l. omega (arith, grant-at h i k l, keeps i .within h k);
         pooled = λ i l. omega (arith, intertie-kw i l, keeps i .pooled);
         most = λ i l. omega (arith, intertie-kw i l, keeps i .most);
@@ -76,7 +76,7 @@ module _ (I H : ℕ) (pools claims weights grants : List ℕ) (fit : Sized I H p
         kw = kw ∙ sumTo-same I _ _ (λ i l. sym (intertie-kw i l));
         bounded = omega (arith, kw-most H (at pools) (atPair claims) (at weights) I);
         counted = omega (arith, passes-most H (at pools) (atPair claims) (at weights) I);
-        stays = λ p other. rw done (at-fillPairs-other H (grantOn H (at pools) (atPair claims) (at weights)) grants I p other);
+        stays = λ p other. rw done (at-fillTable-other H (grantOn H (at pools) (atPair claims) (at weights)) grants I p other);
       }
 
 -- the same numbers are shared out alike on each intertie
@@ -84,10 +84,10 @@ pub over-same : (H I : ℕ) (pool pool′ : ℕ → ℕ) (claim claim′ : ℕ �
     ((i : ℕ) → i < I → pool i ≡ pool′ i) → ((h i : ℕ) → h < H → i < I → claim h i ≡ claim′ h i) → ((h : ℕ) → h < H → weight h ≡ weight′ h) →
     overInterties H pool claim weight I grants ≡ overInterties H pool′ claim′ weight′ I grants
 over-same H I pool pool′ claim claim′ weight weight′ grants p c w =
-    let same : (i : ℕ) → i < I → onIntertie H pool claim weight i ≡ onIntertie H pool′ claim′ weight′ i =
+    let same : (i : ℕ) → i < I → shareOutOn H pool claim weight i ≡ shareOutOn H pool′ claim′ weight′ i =
     λ i l. among-same H (λ h. claim h i) (λ h. claim′ h i) weight weight′ (p i l) (λ h k. c h i k l) w in
     let k : kwOver H pool claim weight I ≡ kwOver H pool′ claim′ weight′ I = sumTo-same I _ _ (λ i l. ap (λ (o : Outcome). o .answer .kw) (same i l)) in
     let q : passesOver H pool claim weight I ≡ passesOver H pool′ claim′ weight′ I = sumTo-same I _ _ (λ i l. ap (λ (o : Outcome). o .answer .passes) (same i l)) in
-    let g : fillPairs I H (grantOn H pool claim weight) grants ≡ fillPairs I H (grantOn H pool′ claim′ weight′) grants =
-    fillPairs-same I H _ _ grants (λ h i k l. ap (λ (o : Outcome). at (o .output) h) (same i l)) in
+    let g : fillTable I H (grantOn H pool claim weight) grants ≡ fillTable I H (grantOn H pool′ claim′ weight′) grants =
+    fillTable-same I H _ _ grants (λ h i k l. ap (λ (o : Outcome). at (o .output) h) (same i l)) in
     rw (k, q, g)

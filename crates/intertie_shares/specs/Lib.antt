@@ -1,3 +1,3 @@
 pub mod Pairs
 pub mod Rule
-pub mod Fit
+pub mod Workers

@@ -1,24 +1,24 @@
-// A share-out on each intertie (document 01, Steps 4a and 4b, and the closings).
+// A share-out on each intertie, over the holders' claims there: Steps 4a and 4b and the closings make theirs by it
+// (docs/RULES.md, "Opening" and "Calls of the year").
 use base::Answer;
+use base::limits::MOST_HOLDERS;
+use base::limits::MOST_INTERTIES;
+use base::limits::MOST_KW;
+use base::limits::MOST_LOAD_SHARE;
+use base::limits::MOST_PAIRS;
+use base::refusals;
+use base::vectors;
 ghost use mathlib.Core.Path.{_≡_};
 ghost use Prim.Native.Nat.{_+_, _≤_, min};
 ghost use lib.Dec.{leb, eqb};
 ghost use lib.ListN.{length};
 ghost use Rattle.base.specs.Choice.{pick};
+ghost use Rattle.base.specs.Limits.{mostKw, mostLoadShare};
 ghost use Rattle.base.specs.Sums.{sumTo, allTo};
 ghost use Rattle.base.specs.Words.{at, tab};
 ghost use Rattle.intertie_shares.specs.Pairs.{atPair, column, fillColumn};
 ghost use Rattle.intertie_shares.specs.Rule.{unfitSizes, shareOutEach};
-ghost use Rattle.intertie_shares.specs.Fit.{Sized, InTable, SharedOn};
-
-const MOST_INTERTIES: usize = 48;
-
-const MOST_HOLDERS: usize = 32;
-
-// A table of the pairs has a row of 48 words for each of 32 holders.
-const ROW: usize = 48;
-
-const TABLE: usize = 1536;
+ghost use Rattle.intertie_shares.specs.Workers.Fit.{Sized, InTable, SharedOn};
 
 // Number 5: whether a size is over its limit, a pool or a weight is missing, or a table is short.
 fn unfit_sizes(
@@ -33,7 +33,8 @@ fn unfit_sizes(
 {
     (MOST_INTERTIES < interties)
         | ((MOST_HOLDERS < holders)
-            | ((pools < interties) | ((weights < holders) | ((claims < TABLE) | (grants < TABLE)))))
+            | ((pools < interties)
+                | ((weights < holders) | ((claims < MOST_PAIRS) | (grants < MOST_PAIRS)))))
 }
 
 // Gathers the holders' words on an intertie of a table.
@@ -43,66 +44,43 @@ fn gather(table: &[u64], intertie: usize, words: &mut [u64])
 {
     let mut h = 0;
     while h < words.len() {
-        words[h] = table[ROW * h + intertie];
-        h += 1;
-    }
-}
-
-// Clears a list.
-fn clear(words: &mut [u64])
-    ensures { λ _. ⌜ now (words .exit) ≡ tab (length (now (words .entry))) (λ h. 0) ⌝ }
-{
-    let mut h = 0;
-    while h < words.len() {
-        words[h] = 0;
+        words[h] = table[MOST_INTERTIES * h + intertie];
         h += 1;
     }
 }
 
 // Clears the output of a share-out that was refused, which has left it as it was.
 fn settle(refusal: u32, output: &mut [u64])
-    ensures { λ _. ⌜ now (output .exit) ≡ pick (eqb refusal 0) (now (output .entry)) (tab (length (now (output .entry))) (λ h. 0)) ⌝ }
+    ensures { λ _. let before = now (output .entry) in
+        ⌜ now (output .exit) ≡ pick (eqb refusal 0) before (tab (length before) (λ h. 0)) ⌝ }
 {
     if refusal != 0 {
-        clear(output);
+        vectors::clear(output);
     }
 }
 
 // Scatters the holders' words over an intertie of a table.
 fn scatter(words: &[u64], intertie: usize, table: &mut [u64])
     requires { ⌜ InTable intertie (length (now words)) (now table) ⌝ }
-    ensures { λ _. ⌜ now (table .exit) ≡ fillColumn intertie (length (now (words .entry))) (at (now (words .entry))) (now (table .entry)) ⌝ }
+    ensures { λ _. let words = now (words .entry) in
+        ⌜ now (table .exit) ≡ fillColumn intertie (length words) (at words) (now (table .entry)) ⌝ }
 {
     let mut h = 0;
     while h < words.len() {
-        table[ROW * h + intertie] = words[h];
+        table[MOST_INTERTIES * h + intertie] = words[h];
         h += 1;
     }
-}
-
-// Whether a share-out takes the weight of every holder.
-fn weights_fit(weights: &[u64], holders: usize) -> bool
-    requires { ⌜ holders ≤ length (now weights) ⌝ }
-    ensures { λ r. ⌜ r ≡ allTo holders (λ h. leb (at (now (weights .entry)) h) 100000000) ⌝ }
-{
-    let mut fit = true;
-    let mut h = 0;
-    while h < holders {
-        fit = fit & (weights[h] <= share_out::MOST_WEIGHT);
-        h += 1;
-    }
-    fit
 }
 
 // The claims on an intertie together, or one more than its pool where they exceed it.
 fn claimed_on(pool: u64, claims: &[u64], intertie: usize, holders: usize) -> u64
-    requires { ⌜ InTable intertie holders (now claims) × (pool ≤ 20000000) ⌝ }
+    requires { ⌜ InTable intertie holders (now claims) × (pool ≤ mostKw) ⌝ }
     ensures { λ r. ⌜ r ≡ min (pool + 1) (sumTo holders (λ h. atPair (now (claims .entry)) h intertie)) ⌝ }
 {
     let mut total = 0;
     let mut h = 0;
     while h < holders {
-        let claim = claims[ROW * h + intertie];
+        let claim = claims[MOST_INTERTIES * h + intertie];
         if pool - total < claim {
             return pool + 1;
         }
@@ -115,11 +93,12 @@ fn claimed_on(pool: u64, claims: &[u64], intertie: usize, holders: usize) -> u64
 // Grants each claim on an intertie whole.
 fn grant_claims(claims: &[u64], intertie: usize, holders: usize, grants: &mut [u64])
     requires { ⌜ InTable intertie holders (now claims) × InTable intertie holders (now grants) ⌝ }
-    ensures { λ _. ⌜ now (grants .exit) ≡ fillColumn intertie holders (λ h. atPair (now (claims .entry)) h intertie) (now (grants .entry)) ⌝ }
+    ensures { λ _. let claim = atPair (now (claims .entry)) in
+        ⌜ now (grants .exit) ≡ fillColumn intertie holders (λ h. claim h intertie) (now (grants .entry)) ⌝ }
 {
     let mut h = 0;
     while h < holders {
-        grants[ROW * h + intertie] = claims[ROW * h + intertie];
+        grants[MOST_INTERTIES * h + intertie] = claims[MOST_INTERTIES * h + intertie];
         h += 1;
     }
 }
@@ -134,8 +113,10 @@ fn share_out_gathered(
     output: &mut [u64],
     grants: &mut [u64],
 ) -> Answer
-    requires { ⌜ Sized (intertie + 1) (length (now claimed)) (now pools) (now claims) (now weights) (now grants) × (length (now output) ≡ length (now claimed)) ⌝ }
-    ensures { λ r. ⌜ SharedOn intertie (length (now (claimed .entry))) (now (pools .entry)) (now (claims .entry)) (now (weights .entry)) (now (grants .entry)) r (now (grants .exit)) ⌝ }
+    requires { ⌜ Sized (intertie + 1) (length (now claimed)) (now pools) (now claims) (now weights) (now grants)
+        × (length (now output) ≡ length (now claimed)) ⌝ }
+    ensures { λ r. ⌜ SharedOn intertie (length (now (claimed .entry))) (now (pools .entry)) (now (claims .entry))
+        (now (weights .entry)) (now (grants .entry)) r (now (grants .exit)) ⌝ }
 {
     gather(claims, intertie, claimed);
     let holders = claimed.len();
@@ -157,12 +138,14 @@ fn share_out_on(
     output: &mut [u64],
     grants: &mut [u64],
 ) -> Answer
-    requires { ⌜ Sized (intertie + 1) (length (now claimed)) (now pools) (now claims) (now weights) (now grants) × (length (now output) ≡ length (now claimed))
-        × (weighable ≡ allTo (length (now claimed)) (λ h. leb (at (now weights) h) 100000000)) ⌝ }
-    ensures { λ r. ⌜ SharedOn intertie (length (now (claimed .entry))) (now (pools .entry)) (now (claims .entry)) (now (weights .entry)) (now (grants .entry)) r (now (grants .exit)) ⌝ }
+    requires { ⌜ Sized (intertie + 1) (length (now claimed)) (now pools) (now claims) (now weights) (now grants)
+        × (length (now output) ≡ length (now claimed))
+        × (weighable ≡ allTo (length (now claimed)) (λ h. leb (at (now weights) h) mostLoadShare)) ⌝ }
+    ensures { λ r. ⌜ SharedOn intertie (length (now (claimed .entry))) (now (pools .entry)) (now (claims .entry))
+        (now (weights .entry)) (now (grants .entry)) r (now (grants .exit)) ⌝ }
 {
     let pool = pools[intertie];
-    if weighable & (pool <= share_out::MOST_POOL_KW) {
+    if weighable & (pool <= MOST_KW) {
         let total = claimed_on(pool, claims, intertie, claimed.len());
         if total <= pool {
             grant_claims(claims, intertie, claimed.len(), grants);
@@ -182,10 +165,14 @@ fn on_each(
     output: &mut [u64],
     grants: &mut [u64],
 ) -> Answer
-    requires { ⌜ Sized interties (length (now claimed)) (now pools) (now claims) (now weights) (now grants) × (length (now output) ≡ length (now claimed)) ⌝ }
-    ensures { λ r. ⌜ (r ≡ shareOutEach interties (length (now (claimed .entry))) (now (pools .entry)) (now (claims .entry)) (now (weights .entry)) (now (grants .entry)) .answer) × (now (grants .exit) ≡ shareOutEach interties (length (now (claimed .entry))) (now (pools .entry)) (now (claims .entry)) (now (weights .entry)) (now (grants .entry)) .output) ⌝ }
+    requires { ⌜ Sized interties (length (now claimed)) (now pools) (now claims) (now weights) (now grants)
+        × (length (now output) ≡ length (now claimed)) ⌝ }
+    ensures { λ r. let holders = length (now (claimed .entry)) in
+        let made = shareOutEach interties holders (now (pools .entry)) (now (claims .entry)) (now (weights .entry)) (now (grants .entry)) in
+        ⌜ (r ≡ made .answer) × (now (grants .exit) ≡ made .output) ⌝ }
 {
-    let weighable = weights_fit(weights, claimed.len());
+    let holders = claimed.len();
+    let weighable = vectors::all_within(&weights[..holders], MOST_LOAD_SHARE);
     let mut kw = 0;
     let mut passes = 0;
     let mut i = 0;
@@ -217,7 +204,9 @@ pub fn share_out_each(
     weights: &[u64],
     grants: &mut [u64],
 ) -> Answer
-    ensures { λ r. ⌜ (r ≡ shareOutEach interties holders (now (pools .entry)) (now (claims .entry)) (now (weights .entry)) (now (grants .entry)) .answer) × (now (grants .exit) ≡ shareOutEach interties holders (now (pools .entry)) (now (claims .entry)) (now (weights .entry)) (now (grants .entry)) .output) ⌝ }
+    ensures { λ r.
+        let made = shareOutEach interties holders (now (pools .entry)) (now (claims .entry)) (now (weights .entry)) (now (grants .entry)) in
+        ⌜ (r ≡ made .answer) × (now (grants .exit) ≡ made .output) ⌝ }
 {
     if unfit_sizes(
         interties,
@@ -227,7 +216,7 @@ pub fn share_out_each(
         weights.len(),
         grants.len(),
     ) {
-        return Answer::refused(5);
+        return Answer::refused(refusals::ROOM);
     }
     let mut claimed = [0u64; MOST_HOLDERS];
     let mut output = [0u64; MOST_HOLDERS];

@@ -14,8 +14,8 @@ use Rattle.base.proofs.ChoiceLaws.{pick-true, and-both}
 use Rattle.base.proofs.SumLaws.{sumTo-same, sumTo-add}
 use Rattle.base.proofs.WordLaws.{at-tab, length-tab, tab-same, at-fill}
 use Rattle.base.specs.Limits.{stateWords}
-use Rattle.intertie_shares.specs.Pairs.{fillPairs}
-use Rattle.intertie_shares.proofs.PairLaws.{length-fillPairs, at-fillPairs}
+use Rattle.intertie_shares.specs.Pairs.{fillTable}
+use Rattle.intertie_shares.proofs.PairLaws.{length-fillTable, at-fillTable}
 use Rattle.sheet_reading.specs.Tables.{existingSlot, loadShareSlot}
 use Rattle.step_5.specs.Shares.{step5Shares}
 use Rattle.step_5.proofs.Promise.{promise}
@@ -55,8 +55,8 @@ module _ (kw ties : List ℕ) (I H : ℕ) (v : Valid (ofTables I H kw ties)) (kw
         record {
           total = availableTotal y;
           left = fill I (unassigned y) (replicate 48 0);
-          preRa = fillPairs I H (preRaGranted y) (replicate 1536 0);
-          newUse = fillPairs I H (newUseGranted y) (replicate 1536 0);
+          preRa = fillTable I H (preRaGranted y) (replicate 1536 0);
+          newUse = fillTable I H (newUseGranted y) (replicate 1536 0);
         }
 
     done : record { total = total; left = left; preRa = preRa; newUse = newUse } ≡ given-by-steps
@@ -73,18 +73,18 @@ module _ (kw ties : List ℕ) (I H : ℕ) (v : Valid (ofTables I H kw ties)) (kw
     granted : Pairs H I preRa (preRaGranted y)
     granted h i k l =
         ap (λ (o : Outcome). at (o .preRa) (pairAt h i)) done
-        ∙ at-fillPairs H (preRaGranted y) (replicate 1536 0) I h i k l (v .holders-most) (v .interties-most) (omega (arith, length-replicate {A = ℕ} 1536 0))
+        ∙ at-fillTable H (preRaGranted y) (replicate 1536 0) I h i k l (v .holders-most) (v .interties-most) (omega (arith, length-replicate {A = ℕ} 1536 0))
 
     kept : Pairs H I newUse (newUseGranted y)
     kept h i k l =
         ap (λ (o : Outcome). at (o .newUse) (pairAt h i)) done
-        ∙ at-fillPairs H (newUseGranted y) (replicate 1536 0) I h i k l (v .holders-most) (v .interties-most) (omega (arith, length-replicate {A = ℕ} 1536 0))
+        ∙ at-fillTable H (newUseGranted y) (replicate 1536 0) I h i k l (v .holders-most) (v .interties-most) (omega (arith, length-replicate {A = ℕ} 1536 0))
 
     pub pre-ra-size : length preRa ≡ 1536
-    pre-ra-size = ap (λ (o : Outcome). length (o .preRa)) done ∙ length-fillPairs H (preRaGranted y) (replicate 1536 0) I ∙ length-replicate {A = ℕ} 1536 0
+    pre-ra-size = ap (λ (o : Outcome). length (o .preRa)) done ∙ length-fillTable H (preRaGranted y) (replicate 1536 0) I ∙ length-replicate {A = ℕ} 1536 0
 
     pub new-use-size : length newUse ≡ 1536
-    new-use-size = ap (λ (o : Outcome). length (o .newUse)) done ∙ length-fillPairs H (newUseGranted y) (replicate 1536 0) I ∙ length-replicate {A = ℕ} 1536 0
+    new-use-size = ap (λ (o : Outcome). length (o .newUse)) done ∙ length-fillTable H (newUseGranted y) (replicate 1536 0) I ∙ length-replicate {A = ℕ} 1536 0
 
     -- E, P and N of a pair are together what it holds
     pair-kw : (h i : ℕ) → h < H → i < I → at kw (existingSlot h i) + at preRa (pairAt h i) + at newUse (pairAt h i) ≡ heldOn y h i

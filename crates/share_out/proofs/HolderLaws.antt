@@ -15,7 +15,7 @@ use Rattle.base.specs.Words.{at}
 use Rattle.base.proofs.ChoiceLaws.{pick-by, pick-true}
 use Rattle.base.proofs.SumLaws.{sumTo-same, sumTo-none, sumTo-zeros}
 use Rattle.share_out.specs.Pass.{unmet, isOpen, openWeight, openWeights, byWeight, oneEach, passKw, passTotal, passGrants}
-use Rattle.share_out.specs.Fit.{none}
+use Rattle.share_out.specs.Workers.Fit.{none}
 use Rattle.share_out.proofs.PassLaws.{open-both, open-unmet, open-weight, byWeight-is, at-passGrants}
 use Rattle.share_out.proofs.RunLaws.{at-none}
 

@@ -18,7 +18,7 @@ use Rattle.base.proofs.WordLaws.{fill-zero, fill-turn, fill-whole, at-fill, at-
 use Rattle.share_out.specs.Turn.{inTurn}
 use Rattle.share_out.specs.Pass.{unmet, isOpen, openWeight, openWeights, byWeight, oneEach, unweighted, passKw, passTotal, passGrants}
 use Rattle.share_out.specs.Rule.{runPasses, claimed, shared}
-use Rattle.share_out.specs.Fit.{AtMost, Weighed, Rated, Serving, Raised, Completed, none, wants}
+use Rattle.share_out.specs.Workers.Fit.{AtMost, Weighed, Rated, Serving, Raised, Completed, none, wants}
 use Rattle.share_out.proofs.PassLaws.{open-weight-part, open-weight-after, open-is, brings-unmet, openWeight-most, byWeight-is, passTotal-within, passTotal-pos, passTotal-last}
 use Rattle.share_out.proofs.RunLaws.{Running, at-none, running-first, running-next, run-empty, run-pass}
 use Rattle.share_out.proofs.Promise.{shared-passes}

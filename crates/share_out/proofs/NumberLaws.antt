@@ -16,7 +16,7 @@ use Rattle.base.specs.Words.{at}
 use Rattle.base.proofs.ChoiceLaws.{and-left, and-right, and-both, or-left, or-right}
 use Rattle.base.proofs.SumLaws.{below-suc, allTo-fails, allTo-each, allTo-all}
 use Rattle.share_out.specs.Rule.{inRange, unfitNumbers}
-use Rattle.share_out.specs.Fit.{AtMost, Covered, raised}
+use Rattle.share_out.specs.Workers.Fit.{AtMost, Covered, raised}
 
 pub pool-over : (pool : ℕ) (claims weights : List ℕ) → 20000000 < pool → unfitNumbers pool claims weights ≡ true
 unfolding unfitNumbers

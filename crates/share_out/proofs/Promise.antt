@@ -1,4 +1,4 @@
--- What a share-out promises its callers, as theorems about the definition `shared`. Nothing above this crate opens the definition.
+-- What a share-out promises its callers, as theorems about the definition `shared`: the laws of the crates above go by these.
 use Prim.Native.Nat.{ℕ, zero, suc, _+_, _-_, _*_, _/_, _≤_, _<_, min, zero-le}
 use mathlib.Core.Path.{_≡_, refl, sym}
 use mathlib.Core.List.{List}
@@ -13,7 +13,7 @@ use Rattle.base.specs.Words.{at}
 use Rattle.base.proofs.SumLaws.{sumTo-none}
 use Rattle.share_out.specs.Pass.{unmet, openWeights, passTotal, passGrants}
 use Rattle.share_out.specs.Rule.{Shared, runPasses, claimed, shared}
-use Rattle.share_out.specs.Fit.{none}
+use Rattle.share_out.specs.Workers.Fit.{none}
 use Rattle.share_out.proofs.PassLaws.{open-both, byWeight-is, at-passGrants}
 use Rattle.share_out.proofs.RunLaws.{Running, at-none, running-first, running-next, run-pass, fuel-lasts}
 use Rattle.share_out.proofs.HolderLaws.{Weightless, weightless-kept, byWeight-least, claimWeights, openWeights-first}

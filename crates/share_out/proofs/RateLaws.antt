@@ -4,7 +4,7 @@ use mathlib.Core.Path.{_≡_, sym, ap, _∙_}
 use mathlib.Core.Logic.{_≢_, ⊎-elim}
 use native.Mathlib.Nat.{eq-zero-or-pos, mul-zero, zero-mul, zero-div, mul-comm, mul-assoc, mul-le-mul-left, mul-le-mul-right, mul-lt-mul-of-pos-left, mul-lt-mul-of-pos-right, le-of-mul-le-mul-right, lt-of-mul-lt-mul-right, div-mul-le-self, lt-div-mul-add, div-eq-of-lt-le, mul-add, add-mul, mul-right-comm}
 use native.Mathlib.Omega.{arith}
-use Rattle.share_out.specs.Fit.{Rated}
+use Rattle.share_out.specs.Workers.Fit.{Rated}
 
 -- the rate is at most left parts for each weight
 pub rate-most : (left weight all rate : ℕ) → Rated left weight all rate → weight * rate ≤ left * 274877906944

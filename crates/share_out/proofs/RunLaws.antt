@@ -13,7 +13,7 @@ use Rattle.base.proofs.SumLaws.{sumTo-same, sumTo-add, sumTo-zeros}
 use Rattle.base.proofs.WordLaws.{at-tab, length-tab}
 use Rattle.share_out.specs.Pass.{unmet, passKw, passTotal, passGrants}
 use Rattle.share_out.specs.Rule.{Shared, runPasses, claimed}
-use Rattle.share_out.specs.Fit.{none}
+use Rattle.share_out.specs.Workers.Fit.{none}
 use Rattle.share_out.proofs.PassLaws.{passKw-unmet, passTotal-within, passTotal-pos, length-passGrants, at-passGrants, unmet-next}
 
 -- what holds whenever a pass may begin, with R left of the pool, g granted and `made` passes made

@@ -17,7 +17,7 @@ use Rattle.base.proofs.ChoiceLaws.{pick-by}
 use Rattle.base.proofs.SumLaws.{sumTo-zero, sumTo-more, sumTo-mono}
 use Rattle.base.proofs.WordLaws.{fill-zero, fill-turn, fill-whole, at-fill, at-fill-past, length-fill, length-tab, at-tab}
 use Rattle.share_out.specs.Turn.{inTurn}
-use Rattle.share_out.specs.Fit.{Raised, wants}
+use Rattle.share_out.specs.Workers.Fit.{Raised, wants}
 use Rattle.share_out.proofs.PassLaws.{inTurn-sum}
 
 -- after i of n holders: what is left of the pool, and the grants

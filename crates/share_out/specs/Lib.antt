@@ -1,4 +1,4 @@
 pub mod Turn
 pub mod Pass
 pub mod Rule
-pub mod Fit
+pub mod Workers

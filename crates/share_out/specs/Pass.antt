@@ -1,4 +1,5 @@
--- One pass of a share-out (01, "Share-out"). Holders count from 0; g has the grants so far, R is the pool at the start of the pass.
+-- One pass of a share-out (docs/RULES.md, "Share-out"). Holders count from 0; g has the grants so far, R is the pool at the
+-- start of the pass.
 use Prim.Native.Nat.{ℕ, _+_, _-_, _*_, _/_, min}
 use mathlib.Core.Bool.{Bool, _&&_}
 use mathlib.Core.List.{List}

@@ -1,10 +1,12 @@
--- The share-out of a pool over claims with weights (01, "Share-out"), with its refusals 5 and 9.
+-- The share-out of a pool over claims with weights (docs/RULES.md, "Share-out"), with its refusals 5 and 9.
 use Prim.Native.Nat.{ℕ, zero, suc, _+_, _-_}
 use mathlib.Core.Bool.{Bool, true, false, not, _&&_, _||_}
 use mathlib.Core.List.{List}
 use lib.ListN.{length}
 use lib.Dec.{ltb, leb, eqb}
 use Rattle.base.specs.Choice.{pick}
+use Rattle.base.specs.Limits.{mostHolders, mostKw, mostClaimKw, mostLoadShare}
+use Rattle.base.specs.Refusals.{roomRefused, rangeRefused}
 use Rattle.base.specs.Sums.{sumTo, allTo}
 use Rattle.base.specs.Words.{at, tab, fill}
 use Rattle.base.specs.Answers.{refused, granted}
@@ -16,7 +18,8 @@ pub record Shared : Type 0 where
   pub grants : List ℕ
   pub passes : ℕ
 
--- passes go on until the pool is empty; every pass counts one. The first number bounds how many follow: a pass gives at least 1 kW, so the pool is enough (`proofs/RunLaws`, `fuel-lasts`)
+-- passes go on until the pool is empty; every pass counts one. The first number bounds how many follow: a pass gives at
+-- least 1 kW, so the pool is enough (`proofs/RunLaws`, `fuel-lasts`)
 unfoldable pub runPasses : List ℕ → List ℕ → ℕ → ℕ → ℕ → List ℕ → Shared
 runPasses claims weights zero made R g = record { grants = g; passes = made }
 runPasses claims weights (suc more) made R g =
@@ -39,15 +42,15 @@ shared pool claims weights =
 
 -- number 5, by the lengths of claims, weights and output: lists of unlike length, over 32, or output shorter
 abbrev pub unfitLengths : ℕ → ℕ → ℕ → Bool
-unfitLengths n weights output = not (eqb n weights) || (ltb 32 n || ltb output n)
+unfitLengths n weights output = not (eqb n weights) || (ltb mostHolders n || ltb output n)
 
 -- a claim and a weight within their ranges
 abbrev pub inRange : List ℕ → List ℕ → ℕ → Bool
-inRange claims weights i = leb (at claims i) 20480000000 && leb (at weights i) 100000000
+inRange claims weights i = leb (at claims i) mostClaimKw && leb (at weights i) mostLoadShare
 
 -- number 9: pool over 20,000,000, claim over 20,480,000,000, weight over 100,000,000
 unfoldable pub unfitNumbers : ℕ → List ℕ → List ℕ → Bool
-unfitNumbers pool claims weights = ltb 20000000 pool || not (allTo (length claims) (inRange claims weights))
+unfitNumbers pool claims weights = ltb mostKw pool || not (allTo (length claims) (inRange claims weights))
 
 -- what a share-out answers, and its output after it
 pub record Outcome : Type 0 where
@@ -62,8 +65,8 @@ sharedAnswer pool claims weights =
 -- a refusal leaves the output as it is; a share-out writes its grants over the first places
 unfoldable pub shareOut : ℕ → List ℕ → List ℕ → List ℕ → Outcome
 shareOut pool claims weights output =
-    pick (unfitLengths (length claims) (length weights) (length output)) (record { answer = refused 5; output = output })
-    (pick (unfitNumbers pool claims weights) (record { answer = refused 9; output = output })
+    pick (unfitLengths (length claims) (length weights) (length output)) (record { answer = refused roomRefused; output = output })
+    (pick (unfitNumbers pool claims weights) (record { answer = refused rangeRefused; output = output })
     (record {
       answer = sharedAnswer pool claims weights;
       output = fill (length claims) (at (shared pool claims weights .grants)) output;

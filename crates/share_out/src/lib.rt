@@ -1,43 +1,38 @@
-// The share-out: a pool over claims with weights, in passes (document 01, "Share-out").
+// The share-out: a pool over claims with weights, in passes (docs/RULES.md, "Share-out").
 use base::Answer;
+use base::limits::MOST_CLAIM_KW;
+use base::limits::MOST_HOLDERS;
+use base::limits::MOST_KW;
+use base::limits::MOST_LOAD_SHARE;
+use base::numbers::excess;
+use base::numbers::smaller;
+use base::refusals;
+use base::vectors;
 ghost use mathlib.Core.Path.{_≡_};
-ghost use mathlib.Core.Bool.{not, _&&_, true, false};
-ghost use Prim.Native.Nat.{ℕ, _+_, _-_, _*_, _/_, _<_, _≤_, min};
+ghost use mathlib.Core.Bool.{not, _&&_};
+ghost use Prim.Native.Nat.{ℕ, _*_, _/_, _≤_};
 ghost use lib.ListN.{length};
 ghost use Rattle.base.specs.Choice.{pick};
+ghost use Rattle.base.specs.Limits.{mostKw, mostClaimKw, mostLoadShare};
 ghost use Rattle.base.specs.Sums.{allTo};
-ghost use Rattle.base.specs.Words.{at, tab};
-ghost use Rattle.share_out.specs.Pass.{unmet};
-ghost use Rattle.share_out.specs.Rule.{claimed, shared, unfitLengths, inRange, unfitNumbers, sharedAnswer, shareOut};
+ghost use Rattle.base.specs.Words.{at};
+ghost use Rattle.share_out.specs.Rule.{shared, unfitLengths, inRange, unfitNumbers, sharedAnswer, shareOut};
 ghost use Rattle.share_out.specs.Turn.{inTurn};
-ghost use Rattle.share_out.specs.Fit.{AtMost, Covered, raised, Weighable, Weighed, Rated, Serving, Raised, Completed, Ready, Accepted, none, wants};
+ghost use Rattle.share_out.specs.Workers.Fit.{Covered, aboveWeights, raised, kwParts, none, wants, Weighable, Weighed, Rated};
+ghost use Rattle.share_out.specs.Workers.Fit.{Serving, Raised, Completed, Ready, Accepted};
 ghost use lib.Dec.{leb, ltb};
-
-const MOST_HOLDERS: usize = 32;
-
-// The most of a pool, of a claim and of a weight.
-pub const MOST_POOL_KW: u64 = 20_000_000;
-
-const MOST_CLAIM_KW: u64 = 20_480_000_000;
-
-pub const MOST_WEIGHT: u64 = 100_000_000;
 
 // The parts of a kW that a rate counts: 2 to the power 38.
 const PARTS: u64 = 274_877_906_944;
 
-// The smaller of two numbers.
-fn smaller(a: u64, b: u64) -> u64
-    ensures { λ r. ⌜ r ≡ min a b ⌝ }
-{
-    if a < b { a } else { b }
-}
+// 2 to the power 32: the lower half of a weight is what it leaves, so that raising it never wraps.
+const WORD: u64 = 4_294_967_296;
 
-// What a has above b, 0 if nothing.
-fn excess(a: u64, b: u64) -> u64
-    ensures { λ r. ⌜ r ≡ a - b ⌝ }
-{
-    if b < a { a - b } else { 0 }
-}
+// 2 to the power 27, which every weight in range is below.
+const ABOVE_WEIGHTS: u64 = 134_217_728;
+
+// What raises the most that a weight can be to the last number below that power.
+const RAISE: u64 = ABOVE_WEIGHTS - 1 - MOST_LOAD_SHARE;
 
 // Number 5: whether lists of these lengths can't be shared out.
 fn unfit_lengths(claims: usize, weights: usize, output: usize) -> bool
@@ -48,9 +43,9 @@ fn unfit_lengths(claims: usize, weights: usize, output: usize) -> bool
 
 // Whether a claim and a weight are within their ranges.
 fn in_range(claim: u64, weight: u64) -> bool
-    ensures { λ r. ⌜ r ≡ (leb claim 20480000000 && leb weight 100000000) ⌝ }
+    ensures { λ r. ⌜ r ≡ (leb claim mostClaimKw && leb weight mostLoadShare) ⌝ }
 {
-    (claim <= MOST_CLAIM_KW) & (weight <= MOST_WEIGHT)
+    (claim <= MOST_CLAIM_KW) & (weight <= MOST_LOAD_SHARE)
 }
 
 // The bits of all claims put together, which no claim is above.
@@ -70,7 +65,7 @@ fn claim_bits(claims: &[u64]) -> u64
 fn raised(weight: u64) -> u64
     ensures { λ r. ⌜ r ≡ raised weight ⌝ }
 {
-    weight | (weight % 4_294_967_296 + 34_217_727)
+    weight | (weight % WORD + RAISE)
 }
 
 // The bits of all raised weights put together, which none of them is above.
@@ -88,9 +83,9 @@ fn weight_bits(weights: &[u64]) -> u64
 
 // Whether the bits of all show that each is within its range.
 fn surely_in_range(claims: u64, weights: u64) -> bool
-    ensures { λ r. ⌜ r ≡ (leb claims 20480000000 && ltb weights 134217728) ⌝ }
+    ensures { λ r. ⌜ r ≡ (leb claims mostClaimKw && ltb weights aboveWeights) ⌝ }
 {
-    (claims <= MOST_CLAIM_KW) & (weights < 134_217_728)
+    (claims <= MOST_CLAIM_KW) & (weights < ABOVE_WEIGHTS)
 }
 
 // Whether a claim or a weight is out of its range, tested one by one.
@@ -113,27 +108,13 @@ fn unfit_numbers(pool: u64, claims: &[u64], weights: &[u64]) -> bool
     requires { ⌜ length (now weights) ≡ length (now claims) ⌝ }
     ensures { λ r. ⌜ r ≡ unfitNumbers pool (now (claims .entry)) (now (weights .entry)) ⌝ }
 {
-    if MOST_POOL_KW < pool {
+    if MOST_KW < pool {
         return true;
     }
     if surely_in_range(claim_bits(claims), weight_bits(weights)) {
         return false;
     }
     some_out_of_range(claims, weights)
-}
-
-// The claims together.
-fn claims_total(claims: &[u64]) -> u64
-    requires { ⌜ (length (now claims) ≤ 32) × AtMost (length (now claims)) (now claims) 20480000000 ⌝ }
-    ensures { λ r. ⌜ r ≡ claimed (now (claims .entry)) ⌝ }
-{
-    let mut total = 0;
-    let mut i = 0;
-    while i < claims.len() {
-        total += claims[i];
-        i += 1;
-    }
-    total
 }
 
 // Grants each claim whole.
@@ -148,17 +129,6 @@ fn grant_all(claims: &[u64], grants: &mut [u64])
     }
 }
 
-// Grants nothing yet.
-fn grant_none(grants: &mut [u64])
-    ensures { λ _. ⌜ now (grants .exit) ≡ tab (length (now (grants .entry))) (λ i. 0) ⌝ }
-{
-    let mut i = 0;
-    while i < grants.len() {
-        grants[i] = 0;
-        i += 1;
-    }
-}
-
 // The weight that a holder brings into W: its own if it is open.
 fn open_weight(unmet: u64, weight: u64) -> u64
     ensures { λ r. ⌜ r ≡ pick (ltb 0 unmet && ltb 0 weight) weight 0 ⌝ }
@@ -169,7 +139,8 @@ fn open_weight(unmet: u64, weight: u64) -> u64
 // Before anything is granted, notes the weight that each holder brings into W; hands back W, the open weights' sum.
 fn weigh_open(claims: &[u64], weights: &[u64], open_weights: &mut [u64; MOST_HOLDERS]) -> u64
     requires { ⌜ Weighable (now claims) (now weights) (now open_weights) ⌝ }
-    ensures { λ r. ⌜ Weighed r (now (claims .entry)) (now (weights .entry)) (none (now (claims .entry))) (now (open_weights .exit)) ⌝ }
+    ensures { λ r. let claims = now (claims .entry) in
+        ⌜ Weighed r claims (now (weights .entry)) (none claims) (now (open_weights .exit)) ⌝ }
 {
     let mut all = 0;
     let mut i = 0;
@@ -184,8 +155,8 @@ fn weigh_open(claims: &[u64], weights: &[u64], open_weights: &mut [u64; MOST_HOL
 
 // The rate of a pass: what a weight of 1 gets, in parts of a kW rounded down.
 fn rate_of(left: u64, all: u64) -> u64
-    requires { ⌜ left ≤ 20000000 ⌝ }
-    ensures { λ r. ⌜ r ≡ left * 274877906944 / all ⌝ }
+    requires { ⌜ left ≤ mostKw ⌝ }
+    ensures { λ r. ⌜ r ≡ left * kwParts / all ⌝ }
 {
     if all == 0 {
         return 0;
@@ -233,7 +204,8 @@ fn serve_in_turn(
     grants: &mut [u64],
 ) -> u64
     requires { ⌜ Serving (now claims) (now open_weights) (now grants) ⌝ }
-    ensures { λ r. ⌜ Raised r (now (grants .exit)) (length (now (claims .entry))) (now (grants .entry)) (inTurn left (wants singly (now (claims .entry)) (now (open_weights .entry)) (now (grants .entry)))) ⌝ }
+    ensures { λ r. let claims = now (claims .entry) in let g = now (grants .entry) in
+        ⌜ Raised r (now (grants .exit)) (length claims) g (inTurn left (wants singly claims (now (open_weights .entry)) g)) ⌝ }
 {
     let mut rest = left;
     let mut i = 0;
@@ -262,7 +234,8 @@ fn complete(
     grants: &mut [u64],
 ) -> u64
     requires { ⌜ Serving (now claims) (now open_weights) (now grants) ⌝ }
-    ensures { λ r. ⌜ Completed given left all r (now (claims .entry)) (now (open_weights .entry)) (now (grants .entry)) (now (grants .exit)) ⌝ }
+    ensures { λ r. ⌜ Completed given left all r (now (claims .entry)) (now (open_weights .entry))
+        (now (grants .entry)) (now (grants .exit)) ⌝ }
 {
     if 0 < given {
         return given;
@@ -274,7 +247,8 @@ fn complete(
 // (`all`) and the weight that each holder brings into it, which is 0 once its claim is met.
 fn by_passes(pool: u64, claims: &[u64], weights: &[u64], grants: &mut [u64]) -> u64
     requires { ⌜ Ready pool (now claims) (now weights) (now grants) ⌝ }
-    ensures { λ r. ⌜ shared pool (now (claims .entry)) (now (weights .entry)) ≡ record { grants = now (grants .exit); passes = r } ⌝ }
+    ensures { λ r. ⌜ shared pool (now (claims .entry)) (now (weights .entry))
+        ≡ record { grants = now (grants .exit); passes = r } ⌝ }
 {
     let mut open_weights = [0u64; MOST_HOLDERS];
     let mut all = weigh_open(claims, weights, &mut open_weights);
@@ -309,14 +283,15 @@ fn by_passes(pool: u64, claims: &[u64], weights: &[u64], grants: &mut [u64]) -> 
 // Shares out what numbers 5 and 9 let pass: each claim whole where they fit, else by passes.
 fn share(pool: u64, claims: &[u64], weights: &[u64], grants: &mut [u64]) -> Answer
     requires { ⌜ Accepted pool (now claims) (now weights) (now grants) ⌝ }
-    ensures { λ r. ⌜ (r ≡ sharedAnswer pool (now (claims .entry)) (now (weights .entry))) × (now (grants .exit) ≡ shared pool (now (claims .entry)) (now (weights .entry)) .grants) ⌝ }
+    ensures { λ r. let claims = now (claims .entry) in let weights = now (weights .entry) in
+        ⌜ (r ≡ sharedAnswer pool claims weights) × (now (grants .exit) ≡ shared pool claims weights .grants) ⌝ }
 {
-    let total = claims_total(claims);
+    let total = vectors::sum_of(claims);
     if total <= pool {
         grant_all(claims, grants);
         return Answer::granted(total, 0);
     }
-    grant_none(grants);
+    vectors::clear(grants);
     let passes = by_passes(pool, claims, weights, grants);
     Answer::granted(pool, passes)
 }
@@ -324,14 +299,15 @@ fn share(pool: u64, claims: &[u64], weights: &[u64], grants: &mut [u64]) -> Answ
 // Shares the pool out over the claims by weight: writes a grant for each claim into the first places of
 // the output and answers the kW granted and the passes. Refused with 5 or 9 it writes nothing.
 pub fn share_out(pool: u64, claims: &[u64], weights: &[u64], output: &mut [u64]) -> Answer
-    ensures { λ r. ⌜ (r ≡ shareOut pool (now (claims .entry)) (now (weights .entry)) (now (output .entry)) .answer) × (now (output .exit) ≡ shareOut pool (now (claims .entry)) (now (weights .entry)) (now (output .entry)) .output) ⌝ }
+    ensures { λ r. let made = shareOut pool (now (claims .entry)) (now (weights .entry)) (now (output .entry)) in
+        ⌜ (r ≡ made .answer) × (now (output .exit) ≡ made .output) ⌝ }
 {
     let n = claims.len();
     if unfit_lengths(n, weights.len(), output.len()) {
-        return Answer::refused(5);
+        return Answer::refused(refusals::ROOM);
     }
     if unfit_numbers(pool, claims, weights) {
-        return Answer::refused(9);
+        return Answer::refused(refusals::RANGE);
     }
     share(pool, claims, weights, &mut output[..n])
 }

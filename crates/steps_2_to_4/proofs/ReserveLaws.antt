@@ -9,10 +9,10 @@ use Rattle.base.specs.Words.{at, tab}
 use Rattle.base.proofs.SumLaws.{sumTo-same}
 use Rattle.base.proofs.WordLaws.{tab-same}
 use Rattle.share_out.specs.Rule.{Outcome}
-use Rattle.intertie_shares.specs.Pairs.{fillPairs}
+use Rattle.intertie_shares.specs.Pairs.{fillTable}
 use Rattle.intertie_shares.specs.Rule.{grantOn}
 use Rattle.intertie_shares.proofs.HolderLaws.{among-same}
-use Rattle.intertie_shares.proofs.PairLaws.{at-fillPairs, fillPairs-same}
+use Rattle.intertie_shares.proofs.PairLaws.{at-fillTable, fillTable-same}
 use Rattle.step_4b.specs.NewUse.{NewUse, newUse}
 use Rattle.sheet_reading.specs.Tables.{existingSlot, preRaSlot, newUseSlot}
 use Rattle.steps.specs.Inputs.{Inputs}
@@ -41,12 +41,12 @@ module _ (kw ties pools loads quantities : List ℕ) (few : length pools ≤ 48)
   module _ (first empty granted : List ℕ) (first-is : first ≡ lowered (y .existing) pools (length loads)) (size : length first ≡ length pools) (room : length empty ≡ 1536)
       (shared : SharedOver first loads (λ h i. at kw (preRaSlot h i) - at kw (existingSlot h i)) empty granted) where
     -- P
-    pub pre-ra-are : granted ≡ fillPairs (length pools) (length loads) (preRaGranted y) empty
+    pub pre-ra-are : granted ≡ fillTable (length pools) (length loads) (preRaGranted y) empty
     unfolding preRaGranted preRaShared preRaClaim
     pre-ra-are =
         shared
-        ∙ ap (λ n. fillPairs n (length loads) (grantOn (length loads) (at first) (λ h i. at kw (preRaSlot h i) - at kw (existingSlot h i)) (at loads)) empty) size
-        ∙ fillPairs-same (length pools) (length loads) _ (preRaGranted y) empty
+        ∙ ap (λ n. fillTable n (length loads) (grantOn (length loads) (at first) (λ h i. at kw (preRaSlot h i) - at kw (existingSlot h i)) (at loads)) empty) size
+        ∙ fillTable-same (length pools) (length loads) _ (preRaGranted y) empty
         (λ h i k l.
         ap (λ (o : Outcome). at (o .output) h)
         (among-same (length loads) (λ j. at kw (preRaSlot j i) - at kw (existingSlot j i)) (λ j. y .preRa j i - y .existing j i) (at loads) (y .loadShare)
@@ -55,7 +55,7 @@ module _ (kw ties pools loads quantities : List ℕ) (few : length pools ≤ 48)
     pre-ra-is : Pairs (length loads) (length pools) granted (preRaGranted y)
     pre-ra-is h i k l =
         ap (λ t. at t (pairAt h i)) pre-ra-are
-        ∙ at-fillPairs (length loads) (preRaGranted y) empty (length pools) h i k l small few (omega arith)
+        ∙ at-fillTable (length loads) (preRaGranted y) empty (length pools) h i k l small few (omega arith)
 
     -- what Step 4a left
     left4a : (after : List ℕ) → after ≡ lowered (λ h i. at granted (pairAt h i)) first (length loads) → (i : ℕ) → i < length pools →
@@ -87,14 +87,14 @@ module _ (kw ties pools loads quantities : List ℕ) (few : length pools ≤ 48)
           (bare-room : length bare ≡ 1536)
           (shared-4b : SharedOver second loads (λ h i. at (keptFrom kw ties (length second) (at quantities h) granted h .kept) i) bare kept) where
         -- N
-        pub new-use-are : kept ≡ fillPairs (length pools) (length loads) (newUseGranted y) bare
+        pub new-use-are : kept ≡ fillTable (length pools) (length loads) (newUseGranted y) bare
         unfolding newUseGranted newUseShared
         new-use-are =
             shared-4b
             ∙ ap (λ n.
-            fillPairs n (length loads) (grantOn (length loads) (at second) (λ h i. at (keptFrom kw ties n (at quantities h) granted h .kept) i) (at loads)) bare)
+            fillTable n (length loads) (grantOn (length loads) (at second) (λ h i. at (keptFrom kw ties n (at quantities h) granted h .kept) i) (at loads)) bare)
             same-size
-            ∙ fillPairs-same (length pools) (length loads) _ (newUseGranted y) bare
+            ∙ fillTable-same (length pools) (length loads) _ (newUseGranted y) bare
             (λ h i k l.
             ap (λ (o : Outcome). at (o .output) h)
             (among-same (length loads) (λ j. at (keptFrom kw ties (length pools) (at quantities j) granted j .kept) i) (λ j. newUseClaim y j i) (at loads) (y .loadShare)
@@ -103,7 +103,7 @@ module _ (kw ties pools loads quantities : List ℕ) (few : length pools ≤ 48)
         new-use-is : Pairs (length loads) (length pools) kept (newUseGranted y)
         new-use-is h i k l =
             ap (λ t. at t (pairAt h i)) new-use-are
-            ∙ at-fillPairs (length loads) (newUseGranted y) bare (length pools) h i k l small few (omega arith)
+            ∙ at-fillTable (length loads) (newUseGranted y) bare (length pools) h i k l small few (omega arith)
 
         -- what stays unassigned
         pub unassigned-are : (after : List ℕ) → after ≡ lowered (λ h i. at kept (pairAt h i)) second (length loads) → after ≡ tab (length pools) (unassigned y)

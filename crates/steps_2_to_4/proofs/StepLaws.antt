@@ -16,7 +16,7 @@ use Rattle.base.specs.Choice.{pick}
 use Rattle.base.proofs.ChoiceLaws.{pick-by, pick-true, pick-false, and-left, and-right, and-both, or-left, or-right}
 use Rattle.base.proofs.SumLaws.{sumTo-same, sumTo-bound, allTo-each, allTo-all, allTo-same}
 use Rattle.base.proofs.WordLaws.{at-tab, length-tab, tab-same, fill-front, fill-same}
-use Rattle.intertie_shares.specs.Pairs.{fillPairs}
+use Rattle.intertie_shares.specs.Pairs.{fillTable}
 use Rattle.sheet_reading.specs.Tables.{limitSlot, outsideSlot, loadShareSlot}
 use Rattle.steps.specs.Inputs.{Inputs}
 use Rattle.steps.specs.Tables.{ofTables}
@@ -248,8 +248,8 @@ module _ (kw ties : List ℕ) (I H : ℕ) (left preRa newUse : List ℕ) where
   pub reserved-is : fitTables kw I H ≡ true → reserved kw ties I H left preRa newUse ≡ record {
     total = availableTotal (ofTables I H kw ties);
     left = fill I (unassigned (ofTables I H kw ties)) left;
-    preRa = fillPairs I H (preRaGranted (ofTables I H kw ties)) preRa;
-    newUse = fillPairs I H (newUseGranted (ofTables I H kw ties)) newUse;
+    preRa = fillTable I H (preRaGranted (ofTables I H kw ties)) preRa;
+    newUse = fillTable I H (newUseGranted (ofTables I H kw ties)) newUse;
   }
   unfolding reserved
   reserved-is e = pick-true _ _ _ e

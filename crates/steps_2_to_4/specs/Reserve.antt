@@ -4,7 +4,7 @@ use mathlib.Core.Path.{_≡_}
 use mathlib.Core.List.{List}
 use lib.ListN.{length}
 use Rattle.base.specs.Words.{tab}
-use Rattle.intertie_shares.specs.Pairs.{fillPairs}
+use Rattle.intertie_shares.specs.Pairs.{fillTable}
 use Rattle.steps.specs.Inputs.{Inputs}
 use Rattle.steps.specs.Tables.{ofTables}
 use Rattle.steps.specs.Step2.{available, loadShareQuantity}
@@ -29,5 +29,5 @@ pub record Reserving (kw ties loads quantities pools preRa newUse : List ℕ) : 
 -- what stays unassigned on each intertie, and P and N of every pair in tables whose other words stay
 pub record Reserved (kw ties loads pools preRa₀ newUse₀ left preRa newUse : List ℕ) : Type 0 where
   pub remains : left ≡ tab (length pools) (unassigned (ofTables (length pools) (length loads) kw ties))
-  pub granted : preRa ≡ fillPairs (length pools) (length loads) (preRaGranted (ofTables (length pools) (length loads) kw ties)) preRa₀
-  pub kept : newUse ≡ fillPairs (length pools) (length loads) (newUseGranted (ofTables (length pools) (length loads) kw ties)) newUse₀
+  pub granted : preRa ≡ fillTable (length pools) (length loads) (preRaGranted (ofTables (length pools) (length loads) kw ties)) preRa₀
+  pub kept : newUse ≡ fillTable (length pools) (length loads) (newUseGranted (ofTables (length pools) (length loads) kw ties)) newUse₀

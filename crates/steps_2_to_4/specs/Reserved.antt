@@ -6,7 +6,7 @@ use lib.Dec.{leb, ltb}
 use Rattle.base.specs.Choice.{pick}
 use Rattle.base.specs.Sums.{allTo}
 use Rattle.base.specs.Words.{at, fill}
-use Rattle.intertie_shares.specs.Pairs.{fillPairs}
+use Rattle.intertie_shares.specs.Pairs.{fillTable}
 use Rattle.sheet_reading.specs.Tables.{limitSlot, loadShareSlot}
 use Rattle.steps.specs.Inputs.{Inputs}
 use Rattle.steps.specs.Tables.{ofTables}
@@ -36,7 +36,7 @@ reserved kw ties I H left preRa newUse =
     (record {
       total = availableTotal y;
       left = fill I (unassigned y) left;
-      preRa = fillPairs I H (preRaGranted y) preRa;
-      newUse = fillPairs I H (newUseGranted y) newUse;
+      preRa = fillTable I H (preRaGranted y) preRa;
+      newUse = fillTable I H (newUseGranted y) newUse;
     })
     (record { total = 0; left = left; preRa = preRa; newUse = newUse })

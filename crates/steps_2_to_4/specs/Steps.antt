@@ -4,7 +4,7 @@ use mathlib.Core.Path.{_≡_}
 use mathlib.Core.List.{List}
 use lib.ListN.{length}
 use Rattle.base.specs.Words.{at, tab, fill}
-use Rattle.intertie_shares.specs.Pairs.{fillPairs}
+use Rattle.intertie_shares.specs.Pairs.{fillTable}
 use Rattle.sheet_reading.specs.Tables.{limitSlot, loadShareSlot}
 use Rattle.steps.specs.Inputs.{Inputs}
 use Rattle.steps.specs.Tables.{ofTables}
@@ -31,8 +31,8 @@ pub record RowsGiven (kw ties loads pools quantities preRa newUse : List ℕ) : 
 pub record RowsTaken (kw ties : List ℕ) (I H : ℕ) (preRa₀ newUse₀ left preRa newUse : List ℕ) (total : ℕ) : Type 0 where
   pub sum : total ≡ availableTotal (ofTables I H kw ties)
   pub remains : left ≡ tab I (unassigned (ofTables I H kw ties))
-  pub granted : preRa ≡ fillPairs I H (preRaGranted (ofTables I H kw ties)) preRa₀
-  pub kept : newUse ≡ fillPairs I H (newUseGranted (ofTables I H kw ties)) newUse₀
+  pub granted : preRa ≡ fillTable I H (preRaGranted (ofTables I H kw ties)) preRa₀
+  pub kept : newUse ≡ fillTable I H (newUseGranted (ofTables I H kw ties)) newUse₀
 
 -- the same as tables are handed on whole: of a row of 48 words the first I are used
 pub record TablesGiven (kw ties : List ℕ) (I H : ℕ) (left preRa newUse : List ℕ) : Type 0 where
@@ -50,5 +50,5 @@ pub record TablesGiven (kw ties : List ℕ) (I H : ℕ) (left preRa newUse : Lis
 pub record TablesTaken (kw ties : List ℕ) (I H : ℕ) (left₀ preRa₀ newUse₀ left preRa newUse : List ℕ) (total : ℕ) : Type 0 where
   pub sum : total ≡ availableTotal (ofTables I H kw ties)
   pub remains : left ≡ fill I (unassigned (ofTables I H kw ties)) left₀
-  pub granted : preRa ≡ fillPairs I H (preRaGranted (ofTables I H kw ties)) preRa₀
-  pub kept : newUse ≡ fillPairs I H (newUseGranted (ofTables I H kw ties)) newUse₀
+  pub granted : preRa ≡ fillTable I H (preRaGranted (ofTables I H kw ties)) preRa₀
+  pub kept : newUse ≡ fillTable I H (newUseGranted (ofTables I H kw ties)) newUse₀

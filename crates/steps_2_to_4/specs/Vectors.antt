@@ -5,7 +5,7 @@ use mathlib.Core.List.{List}
 use lib.ListN.{length}
 use Rattle.base.specs.Sums.{sumTo}
 use Rattle.base.specs.Words.{at, tab}
-use Rattle.intertie_shares.specs.Pairs.{fillPairs}
+use Rattle.intertie_shares.specs.Pairs.{fillTable}
 use Rattle.intertie_shares.specs.Rule.{grantOn}
 use Rattle.sheet_reading.specs.Tables.{existingSlot, preRaSlot, newUseSlot}
 use Rattle.step_4b.specs.NewUse.{NewUse, newUse}
@@ -32,4 +32,4 @@ keptFrom kw ties interties quantity granted h =
 -- a table of grants: on each intertie its pool is shared out over the claims there, with the holders' weights; the other words stay
 abbrev pub SharedOver : List ℕ → List ℕ → (ℕ → ℕ → ℕ) → List ℕ → List ℕ → Type 0
 SharedOver pools loads claim first granted =
-    granted ≡ fillPairs (length pools) (length loads) (grantOn (length loads) (at pools) claim (at loads)) first
+    granted ≡ fillTable (length pools) (length loads) (grantOn (length loads) (at pools) claim (at loads)) first

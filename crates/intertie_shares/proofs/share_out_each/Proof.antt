@@ -2,7 +2,7 @@
 use Rattle.base.proofs.Prelude.{refl, sym, ap, _∙_, now, needs}
 use lib.Seq.{length-take-le}
 use Rattle.share_out.specs.Rule.{Outcome}
-use Rattle.intertie_shares.specs.Fit.{Sized}
+use Rattle.intertie_shares.specs.Workers.Fit.{Sized}
 use Rattle.intertie_shares.proofs.OutcomeLaws.{fit-sizes, each-refused}
 use Rattle.intertie_shares.proofs.share_out_each.Statement.{statement}
 use Rattle.intertie_shares.proofs.share_out_each.Tie as tie

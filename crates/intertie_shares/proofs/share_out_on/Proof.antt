@@ -7,9 +7,7 @@ use Rattle.intertie_shares.proofs.share_out_on.Statement.{statement}
 use Rattle.intertie_shares.proofs.share_out_on.Tie as tie
 
 -- the pool is one that the share-out takes
-small : (c : tie.Then1) →
-    let a = c .before .before .before .before .before .before .before .before .args in
-    at (now (a .pools)) (a .intertie) ≤ 20000000
+small : (c : tie.Then1) → (let start : tie.Start = search needs in let a = start .args in at (now (a .pools)) (a .intertie) ≤ 20000000)
 small c =
     let start : tie.Start = search needs in let a = start .args in
     let kw = at (now (a .pools)) (a .intertie) in

@@ -1,7 +1,7 @@
 -- `by_passes` meets its contract: each turn of the outer loop is a pass of the definition (`LoopLaws`).
 use Rattle.base.proofs.Prelude.{_-_, _<_, _≡_, refl, _∙_, arith, length, now, needs}
 use Rattle.share_out.specs.Pass.{openWeight, byWeight}
-use Rattle.share_out.specs.Fit.{Weighed, Raised}
+use Rattle.share_out.specs.Workers.Fit.{Weighed, Raised}
 use Rattle.share_out.proofs.PassLaws.{openWeight-most, byWeight-within}
 use Rattle.share_out.proofs.LoopLaws.{Given, given-none, given-later, given-next, given-most, given-all, Noted, noted-none, noted-later, noted-next, noted-most, noted-weights, weighted, rated-open, part-is, after-is, Passed, completed-pass, weighed-next, serving, Passing, passing-first, passing-next, passing-last, passed-within, passed-some}
 use Rattle.share_out.proofs.by_passes.Statement.{statement}
@@ -81,8 +81,11 @@ portion-requires c κs =
 
 -- the holder's part is the definition's
 part : (c : tie.After-smaller Inv-loop μ-loop Inv-passes μ-passes) →
+    (let start : tie.Start Inv-loop μ-loop Inv-passes μ-passes = search needs in
+    let at-passes : tie.At-passes Inv-loop μ-loop Inv-passes μ-passes = search needs in
+    let at-loop : tie.At-loop Inv-loop μ-loop Inv-passes μ-passes = search needs in
     c .smaller .result
-    ≡ byWeight (now (c .before .before .before .before .before .before .before .before .before .before .before .before .before .before .args .claims)) (now (c .before .before .before .before .before .before .before .before .before .before .before .before .before .before .args .weights)) (c .before .before .before .before .before .before .before .before .passes .left) (c .before .before .before .before .before .before .before .before .passes .grants) (c .before .before .before .before .before .loop .i)
+    ≡ byWeight (now (start .args .claims)) (now (start .args .weights)) (at-passes .passes .left) (at-passes .passes .grants) (at-loop .loop .i))
 part c =
     let start : tie.Start Inv-loop μ-loop Inv-passes μ-passes = search needs in
     let at-passes : tie.At-passes Inv-loop μ-loop Inv-passes μ-passes = search needs in
@@ -138,8 +141,13 @@ array-read-weight-after c =
 
 -- what the holder then brings into W is the definition's
 after : (c : tie.After-weight-after Inv-loop μ-loop Inv-passes μ-passes) →
+    (let start : tie.Start Inv-loop μ-loop Inv-passes μ-passes = search needs in
+    let at-passes : tie.At-passes Inv-loop μ-loop Inv-passes μ-passes = search needs in
+    let at-loop : tie.At-loop Inv-loop μ-loop Inv-passes μ-passes = search needs in
+    let claims = now (start .args .claims) in
+    let weights = now (start .args .weights) in
     c .weight-after .result
-    ≡ openWeight (now (c .before .before .before .before .before .before .before .before .before .before .before .before .before .before .before .before .args .claims)) (now (c .before .before .before .before .before .before .before .before .before .before .before .before .before .before .before .before .args .weights)) (weighted (now (c .before .before .before .before .before .before .before .before .before .before .before .before .before .before .before .before .args .claims)) (now (c .before .before .before .before .before .before .before .before .before .before .before .before .before .before .before .before .args .weights)) (c .before .before .before .before .before .before .before .before .before .before .passes .left) (c .before .before .before .before .before .before .before .before .before .before .passes .grants)) (c .before .before .before .before .before .before .before .loop .i)
+    ≡ openWeight claims weights (weighted claims weights (at-passes .passes .left) (at-passes .passes .grants)) (at-loop .loop .i))
 after c =
     let start : tie.Start Inv-loop μ-loop Inv-passes μ-passes = search needs in
     let at-passes : tie.At-passes Inv-loop μ-loop Inv-passes μ-passes = search needs in
@@ -182,16 +190,25 @@ loop-again c =
       noted-next _ _ _ _ _ (at-loop .loop .i) _ (at-loop .loop .inv .1) (in-loop .loop-test .taken) (after (c)),
     )
 
--- the parts by weight are given, and the weights that are left noted
+-- the parts by weight are given
 raised : (c : tie.After-loop Inv-loop μ-loop Inv-passes μ-passes) →
-    Raised (c .before .loop .given) (c .before .loop .grants) (length (now (c .before .before .before .before .before .before .before .before .before .before .args .claims))) (c .before .before .before .before .passes .grants)
-    (byWeight (now (c .before .before .before .before .before .before .before .before .before .before .args .claims)) (now (c .before .before .before .before .before .before .before .before .before .before .args .weights)) (c .before .before .before .before .passes .left) (c .before .before .before .before .passes .grants))
+    (let start : tie.Start Inv-loop μ-loop Inv-passes μ-passes = search needs in
+    let at-passes : tie.At-passes Inv-loop μ-loop Inv-passes μ-passes = search needs in
+    let at-loop : tie.At-loop Inv-loop μ-loop Inv-passes μ-passes = search needs in
+    let claims = now (start .args .claims) in
+    let g = at-passes .passes .grants in
+    Raised (at-loop .loop .given) (at-loop .loop .grants) (length claims) g
+    (byWeight claims (now (start .args .weights)) (at-passes .passes .left) g))
 raised c =
     let at-passes : tie.At-passes Inv-loop μ-loop Inv-passes μ-passes = search needs in
     given-all _ _ _ _ _ _ (at-passes .passes .inv .0 .running .size) (c .before .loop .inv .0) (c .loop-test .left)
 
+-- and the weights that are left noted
 ended : (c : tie.After-loop Inv-loop μ-loop Inv-passes μ-passes) →
-    Weighed (c .before .loop .still-open) (now (c .before .before .before .before .before .before .before .before .before .before .args .claims)) (now (c .before .before .before .before .before .before .before .before .before .before .args .weights)) (c .before .loop .grants) (c .before .loop .open-weights)
+    (let start : tie.Start Inv-loop μ-loop Inv-passes μ-passes = search needs in
+    let at-loop : tie.At-loop Inv-loop μ-loop Inv-passes μ-passes = search needs in
+    Weighed (at-loop .loop .still-open) (now (start .args .claims)) (now (start .args .weights)) (at-loop .loop .grants)
+    (at-loop .loop .open-weights))
 ended c =
     let start : tie.Start Inv-loop μ-loop Inv-passes μ-passes = search needs in
     let at-passes : tie.At-passes Inv-loop μ-loop Inv-passes μ-passes = search needs in
@@ -209,8 +226,10 @@ complete-requires c κs =
 
 -- the turn is a pass
 pass : (c : tie.After-complete Inv-loop μ-loop Inv-passes μ-passes) →
-    Passed (now (c .before .before .before .before .before .before .before .before .before .before .before .before .before .args .claims)) (now (c .before .before .before .before .before .before .before .before .before .before .before .before .before .args .weights)) (c .before .before .before .before .before .before .before .passes .left) (c .before .before .before .before .before .before .before .passes .grants)
-    (c .complete .result) (c .complete .last .1 .1 .1 .1 .1 .0)
+    (let start : tie.Start Inv-loop μ-loop Inv-passes μ-passes = search needs in
+    let at-passes : tie.At-passes Inv-loop μ-loop Inv-passes μ-passes = search needs in
+    Passed (now (start .args .claims)) (now (start .args .weights)) (at-passes .passes .left) (at-passes .passes .grants)
+    (c .complete .result) (c .complete .last .1 .1 .1 .1 .1 .0))
 pass c =
     let start : tie.Start Inv-loop μ-loop Inv-passes μ-passes = search needs in
     let at-passes : tie.At-passes Inv-loop μ-loop Inv-passes μ-passes = search needs in

@@ -1,6 +1,6 @@
 -- `claim_bits` meets its contract: after i turns no claim of the first i is above the bits.
 use Rattle.base.proofs.Prelude.{_-_, _≤_, refl, arith, length, now, needs, at}
-use Rattle.share_out.specs.Fit.{Covered}
+use Rattle.share_out.specs.Workers.Fit.{Covered}
 use Rattle.share_out.proofs.NumberLaws.{covered-none, covered-more}
 use Rattle.share_out.proofs.claim_bits.Statement.{statement}
 use Rattle.share_out.proofs.claim_bits.Tie as tie

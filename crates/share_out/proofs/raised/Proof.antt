@@ -1,6 +1,6 @@
 -- `raised` meets its contract.
 use Rattle.base.proofs.Prelude.{refl, needs}
-use Rattle.share_out.specs.Fit.{raised}
+use Rattle.share_out.specs.Workers.Fit.{raised}
 use Rattle.share_out.proofs.raised.Statement.{statement}
 use Rattle.share_out.proofs.raised.Tie as tie
 

@@ -1,6 +1,6 @@
 -- `serve_in_turn` meets its contract: after i turns the first i holders are served (`TurnLaws`).
 use Rattle.base.proofs.Prelude.{_-_, min, ap, _∙_, arith, length, now, needs, at}
-use Rattle.share_out.specs.Fit.{wants}
+use Rattle.share_out.specs.Workers.Fit.{wants}
 use Rattle.share_out.proofs.TurnLaws.{Served, served-none, served-later, served-next, served-all, served-empty, wants-is, wants-unmet}
 use Rattle.share_out.proofs.serve_in_turn.Statement.{statement}
 use Rattle.share_out.proofs.serve_in_turn.Tie as tie

@@ -1,6 +1,6 @@
 -- `weigh_open` meets its contract: after i turns the first i weights are noted and summed (`LoopLaws`).
 use Rattle.base.proofs.Prelude.{_-_, arith, length, now, needs}
-use Rattle.share_out.specs.Fit.{none}
+use Rattle.share_out.specs.Workers.Fit.{none}
 use Rattle.share_out.specs.Pass.{openWeight}
 use Rattle.share_out.proofs.PassLaws.{openWeight-most}
 use Rattle.share_out.proofs.LoopLaws.{Noted, noted-none, noted-next, noted-most, noted-weights, first-is}

@@ -1,6 +1,6 @@
 -- `weight_bits` meets its contract: after i turns no raised weight of the first i is above the bits.
 use Rattle.base.proofs.Prelude.{ℕ, _-_, _≤_, List, arith, length, now, needs, at}
-use Rattle.share_out.specs.Fit.{Covered, raised}
+use Rattle.share_out.specs.Workers.Fit.{Covered, raised}
 use Rattle.share_out.proofs.NumberLaws.{covered-none, covered-more}
 use Rattle.share_out.proofs.weight_bits.Statement.{statement}
 use Rattle.share_out.proofs.weight_bits.Tie as tie

@@ -3,27 +3,28 @@ use Prim.Native.Nat.{ℕ, _≤_, _<_}
 use mathlib.Core.Path.{_≡_}
 use mathlib.Core.List.{List}
 use lib.ListN.{length}
+use Rattle.base.specs.Limits.{mostInterties, mostHolders, mostPairs}
 use Rattle.base.specs.Words.{at}
 use Rattle.base.specs.declared.Answer.{Answer}
 use Rattle.intertie_shares.specs.Pairs.{atPair, fillColumn}
-use Rattle.intertie_shares.specs.Rule.{onIntertie}
+use Rattle.intertie_shares.specs.Rule.{shareOutOn}
 
 -- what number 5 leaves of the sizes
 pub record Sized (I H : ℕ) (pools claims weights grants : List ℕ) : Type 0 where
-  pub interties : I ≤ 48
-  pub holders : H ≤ 32
+  pub interties : I ≤ mostInterties
+  pub holders : H ≤ mostHolders
   pub pooled : I ≤ length pools
   pub weighed : H ≤ length weights
-  pub claimed : 1536 ≤ length claims
-  pub room : 1536 ≤ length grants
+  pub claimed : mostPairs ≤ length claims
+  pub room : mostPairs ≤ length grants
 
 -- a column of at most 32 holders that lies in a table of the pairs
 pub record InTable (i H : ℕ) (table : List ℕ) : Type 0 where
-  pub intertie : i < 48
-  pub holders : H ≤ 32
-  pub whole : 1536 ≤ length table
+  pub intertie : i < mostInterties
+  pub holders : H ≤ mostHolders
+  pub whole : mostPairs ≤ length table
 
 -- intertie i is shared out: r is the answer, and the table of grants has its column
 pub record SharedOn (i H : ℕ) (pools claims weights grants : List ℕ) (r : Answer) (after : List ℕ) : Type 0 where
-  pub answer : r ≡ onIntertie H (at pools) (atPair claims) (at weights) i .answer
-  pub column : after ≡ fillColumn i H (at (onIntertie H (at pools) (atPair claims) (at weights) i .output)) grants
+  pub answer : r ≡ shareOutOn H (at pools) (atPair claims) (at weights) i .answer
+  pub column : after ≡ fillColumn i H (at (shareOutOn H (at pools) (atPair claims) (at weights) i .output)) grants
