@@ -8,7 +8,7 @@ use native.Mathlib.Numerals.{add-one}
 use native.Mathlib.Omega.{arith}
 use native.Mathlib.Decide.{decLt}
 use lib.ListN.{length, set, take, drop, replicate, length-set, length-append, length-drop, length-replicate, getD-replicate, List·getD-append}
-use lib.Seq.{ext-getD, getD-set-same, getD-set-other, getD-append-add, getD-drop, getD-take, length-take-le}
+use lib.Seq.{sets, ext-getD, getD-set-same, getD-set-other, getD-append-add, getD-drop, getD-take, length-take-le}
 use Rattle.base.specs.Words.{at, tab, fill}
 use Rattle.base.proofs.SumLaws.{below-suc}
 
@@ -143,3 +143,10 @@ fill-front g l h =
           ∙ getD-drop n l (i - n) 0
           ∙ ap (at l) later)
     ])
+
+-- a run of stores after another is one run
+pub sets-more : (place : ℕ) (t u l : List ℕ) → sets (sets l place t) (place + length t) u ≡ sets l place (t ++ u)
+sets-more place [] u l = ap (λ (k : ℕ). sets l k u) (omega arith)
+sets-more place (x ∷ t) u l =
+    ap (λ (k : ℕ). sets (sets (set l place x) (suc place) t) k u) (omega arith)
+    ∙ sets-more (suc place) t u (set l place x)

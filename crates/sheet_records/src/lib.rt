@@ -1,5 +1,6 @@
-// The sheet of an assignment year: its words, the fields of its keys, and its records one by one.
+// The sheet of an assignment year: its words, the fields of its keys, its records one by one, and a sheet written.
 pub mod cursor;
 pub mod key;
 pub mod reader;
 pub mod words;
+pub mod writing;

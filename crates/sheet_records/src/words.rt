@@ -16,11 +16,11 @@ use base::limits::SHEET_HEADER_BYTES;
 pub const WORD_BYTES: usize = 4;
 
 // Where the words of I, H and K begin.
-const INTERTIES_AT: usize = 0;
+pub(crate) const INTERTIES_AT: usize = 0;
 
-const HOLDERS_AT: usize = 4;
+pub(crate) const HOLDERS_AT: usize = 4;
 
-const COUNT_AT: usize = 8;
+pub(crate) const COUNT_AT: usize = 8;
 
 // The byte at a place.
 fn byte(sheet: &[u8], place: usize) -> u32
