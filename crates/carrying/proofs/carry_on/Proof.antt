@@ -29,13 +29,9 @@ write-sheet-requires c κs =
 
 returns-2 : tie.Need-returns-2
 returns-2 c =
-    let after-draft : tie.After-draft = search needs in let after-word2 : tie.After-word2 = search needs in
-    let after-does-not-fit : tie.After-does-not-fit = search needs in let else1 : tie.Else1 = search needs in
-    let after-shared-slice-known : tie.After-shared-slice-known = search needs in
-    let after-word : tie.After-word = search needs in let after-write-sheet : tie.After-write-sheet = search needs in
-    let start : tie.Start = search needs in let a = start .args in
-    draft-written (now (a .sheet)) (now (a .state)) (now (a .output)) (start .pre .0) (start .pre .1) _ _ _ _ (after-draft .draft .ensures .1) _ (after-word2 .word2 .ensures) _ (after-does-not-fit .does-not-fit .ensures) _ _ _ (else1 .if1 .left)
-    (λ i. after-shared-slice-known .shared-slice-known .given i .fits) (after-word .word .ensures) (after-write-sheet .write-sheet .ensures) (c .granted .ensures)
+    let a = c .before .before .before .before .before .before .before .before .before .before .before .before .before .before .before .before .before .before .before .args in
+    draft-written (now (a .sheet)) (now (a .state)) (now (a .output)) (c .before .before .before .before .before .before .before .before .before .before .before .before .before .before .before .before .before .before .before .pre .0) (c .before .before .before .before .before .before .before .before .before .before .before .before .before .before .before .before .before .before .before .pre .1) _ _ _ _ (c .before .before .before .before .before .before .before .before .before .before .draft .ensures .1) _ (c .before .before .before .before .before .before .before .before .before .before .before .before .before .before .word2 .ensures) _ (c .before .before .before .before .before .before .before .before .does-not-fit .ensures) _ _ _ (c .before .before .before .before .before .before .before .if1 .left)
+    (λ i. c .before .before .before .before .before .before .before .before .before .before .before .before .before .before .before .before .before .before .shared-slice-known .given i .fits) (c .before .before .before .before .before .before .before .before .before .before .before .before .before .before .before .word .ensures) (c .before .before .before .write-sheet .ensures) (c .granted .ensures)
 
 pub carry-on-spec : {M : Type 1} → statement M
 carry-on-spec =

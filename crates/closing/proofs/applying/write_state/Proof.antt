@@ -7,23 +7,18 @@ use Rattle.closing.proofs.applying.write_state.Tie as tie
 
 returns : tie.Need-returns
 returns c =
-    let after-intertie-count : tie.After-intertie-count = search needs in
-    let after-holder-count : tie.After-holder-count = search needs in
-    let after-stage : tie.After-stage = search needs in let after-store-row : tie.After-store-row = search needs in
-    let after-store-row2 : tie.After-store-row2 = search needs in
-    let after-raise-pairs : tie.After-raise-pairs = search needs in
-    let after-clear-pairs : tie.After-clear-pairs = search needs in
-    let after-store : tie.After-store = search needs in let start : tie.Start = search needs in let a = start .args in
-    let o = refusal-none _ (start .pre .0 .fit) in
-    state-is (now (a .state)) (now (a .unassigned)) (now (a .unplaced)) (now (a .table)) _ _ _ _ _ _ _ _ (o .0) (o .1) (start .pre .1) (start .pre .2)
-    (after-intertie-count .intertie-count .ensures)
-    (after-holder-count .holder-count .ensures)
-    (after-stage .stage .ensures)
-    (after-store-row .store-row .ensures)
-    (after-store-row2 .store-row2 .ensures)
-    (after-raise-pairs .raise-pairs .ensures)
-    (after-clear-pairs .clear-pairs .ensures)
-    (after-store .store .ensures)
+    let s = c .before .before .before .before .before .before .before .before .before .before .before .before .before .before .before .before .before .before .before .before .before .before .before .before .before .before .before .before .before .before in
+    let a = s .args in
+    let o = refusal-none _ (s .pre .0 .fit) in
+    state-is (now (a .state)) (now (a .unassigned)) (now (a .unplaced)) (now (a .table)) _ _ _ _ _ _ _ _ (o .0) (o .1) (s .pre .1) (s .pre .2)
+    (c .before .before .before .before .before .before .before .before .before .before .before .before .before .before .before .before .before .before .before .before .before .before .before .before .intertie-count .ensures)
+    (c .before .before .before .before .before .before .before .before .before .before .before .before .before .before .before .before .before .before .before .before .before .before .holder-count .ensures)
+    (c .before .before .before .before .before .before .before .before .before .before .before .before .before .before .before .before .before .before .before .before .stage .ensures)
+    (c .before .before .before .before .before .before .before .before .before .before .before .before .before .before .before .before .before .before .store-row .ensures)
+    (c .before .before .before .before .before .before .before .before .before .before .before .before .before .before .store-row2 .ensures)
+    (c .before .before .before .before .before .before .before .before .before .before .raise-pairs .ensures)
+    (c .before .before .before .before .before .before .clear-pairs .ensures)
+    (c .before .before .store .ensures)
 
 pub write-state-spec : {M : Type 1} → statement M
 write-state-spec =

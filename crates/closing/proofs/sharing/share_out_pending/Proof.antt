@@ -24,17 +24,12 @@ read-pairs-requires c κs =
 
 returns : tie.Need-returns
 returns c =
-    let after-intertie-count : tie.After-intertie-count = search needs in
-    let after-holder-count : tie.After-holder-count = search needs in
-    let after-read-row : tie.After-read-row = search needs in
-    let after-read-pairs : tie.After-read-pairs = search needs in let after-weigh : tie.After-weigh = search needs in
-    let after-share-out-each : tie.After-share-out-each = search needs in
-    let start : tie.Start = search needs in let a = start .args in
-    let p = start .pre in
+    let a = c .before .before .before .before .before .before .before .before .before .before .before .before .before .before .before .before .before .before .before .before .args in
+    let p = c .before .before .before .before .before .before .before .before .before .before .before .before .before .before .before .before .before .before .before .before .pre in
     let o = refusal-none _ (p .0 .fit) in
-    pending-shared (now (a .state)) (o .1) (p .0 .stage-most) _ _ _ _ _ (now (a .table)) _ _ (after-intertie-count .intertie-count .ensures) (after-holder-count .holder-count .ensures)
-    (after-read-row .read-row .ensures) (after-read-pairs .read-pairs .ensures) (omega (arith, after-read-pairs .read-pairs .kept .1 .1 .1 .1 .0, length-zeros 1536)) (after-weigh .weigh .ensures) (p .1)
-    (after-share-out-each .share-out-each .ensures .0) (after-share-out-each .share-out-each .ensures .1)
+    pending-shared (now (a .state)) (o .1) (p .0 .stage-most) _ _ _ _ _ (now (a .table)) _ _ (c .before .before .before .before .before .before .before .before .before .before .before .before .before .before .before .before .before .intertie-count .ensures) (c .before .before .before .before .before .before .before .before .before .before .before .before .before .before .before .before .holder-count .ensures)
+    (c .before .before .before .before .before .before .before .before .before .before .before .before .before .before .read-row .ensures) (c .before .before .before .before .before .before .before .before .before .before .before .read-pairs .ensures) (omega (arith, c .before .before .before .before .before .before .before .before .before .before .before .read-pairs .kept .1 .1 .1 .1 .0, length-zeros 1536)) (c .before .before .before .before .before .before .before .before .weigh .ensures) (p .1)
+    (c .before .before .share-out-each .ensures .0) (c .before .before .share-out-each .ensures .1)
 
 pub share-out-pending-spec : {M : Type 1} → statement M
 share-out-pending-spec =
