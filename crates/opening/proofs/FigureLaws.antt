@@ -12,7 +12,7 @@ use Rattle.base.proofs.WordLaws.{at-tab, length-tab}
 use Rattle.sheet_reading.specs.Tables.{loadShareSlot}
 use Rattle.step_5.specs.Shares.{step5Shares}
 use Rattle.step_5.specs.Outcome.{step5}
-use Rattle.step_5.specs.Fit.{Accepted}
+use Rattle.step_5.specs.Workers.Fit.{Accepted}
 use Rattle.step_5.proofs.OutcomeLaws.{outcome-accepted, shares-whole}
 use Rattle.step_5.proofs.Promise.{promise}
 use Rattle.steps_2_to_4.proofs.ClaimLaws.{mid-tab}

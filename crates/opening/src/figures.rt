@@ -74,6 +74,6 @@ pub(super) fn steps_5_to_7(
 {
     fill_held(kw, interties, pre_ra, new_use, held);
     let end = LOAD_SHARES + held.len();
-    step_5::step5_shares(total, held, &kw[LOAD_SHARES..end], shares);
+    step_5::step_5_shares(total, held, &kw[LOAD_SHARES..end], shares);
     fill_totals(held, shares, totals);
 }

@@ -1,5 +1,4 @@
 pub mod Examples
-pub mod BaseMore
 pub mod UsedLaws
 pub mod RankLaws
 pub mod Promise

@@ -7,7 +7,7 @@ use lib.ListN.{length}
 use Rattle.base.specs.Words.{at, tab}
 use Rattle.base.proofs.WordLaws.{length-tab}
 use Rattle.step_4b.specs.NewUse.{NewUse, nextRank, afterRanks, beforeRanks, newUse}
-use Rattle.step_4b.specs.Used.{Used}
+use Rattle.step_4b.specs.Workers.Used.{Used}
 use Rattle.step_4b.proofs.RankLaws.{afterRanks-zero, afterRanks-more, afterRanks-past}
 use Rattle.step_4b.proofs.Promise.{Promise, promise-after}
 

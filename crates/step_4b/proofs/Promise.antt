@@ -11,10 +11,11 @@ use borrow.Author.Tests.{eq-eqb, ne-eqb}
 use Rattle.base.specs.Choice.{pick}
 use Rattle.base.specs.Sums.{sumTo}
 use Rattle.base.specs.Words.{at, tab}
+use Rattle.base.proofs.ChoiceLaws.{pick-most}
+use Rattle.base.proofs.PlaceLaws.{at-less, at-more, at-more-most, sum-one-more, sum-one-more-most}
 use Rattle.base.proofs.SumLaws.{sumTo-zero, sumTo-suc, sumTo-zeros, drop-last}
 use Rattle.base.proofs.WordLaws.{length-tab, at-tab}
 use Rattle.step_4b.specs.NewUse.{NewUse, covered, stays, nextRank, afterRanks, beforeRanks, newUse}
-use Rattle.step_4b.proofs.BaseMore.{pick-most, at-lowered, at-raised, at-raised-most, sum-raised, sum-raised-most}
 
 -- the kW that rank k asks for on intertie i
 abbrev pub askedAt : List ℕ → List ℕ → ℕ → ℕ → ℕ
@@ -94,20 +95,20 @@ module _ (kw interties : List ℕ) (allowance : ℕ) (cover : List ℕ) (count :
       record {
         covers = length-set (s .cover) i (at (s .cover) i - x) ∙ p .covers;
         size = length-set (s .kept) i (at (s .kept) i + y) ∙ p .size;
-        falls = λ j. omega (arith, at-lowered (s .cover) i x j, p .falls j);
-        each = λ j. omega (arith, at-raised-most (s .kept) i y j, p .each j, pick-most (eqb i j) y);
-        total = omega (arith, rw (p .size) at (sum-raised-most (s .kept) i y), p .total);
+        falls = λ j. omega (arith, at-less (s .cover) i x j, p .falls j);
+        each = λ j. omega (arith, at-more-most (s .kept) i y j, p .each j, pick-most (eqb i j) y);
+        total = omega (arith, rw (p .size) at (sum-one-more-most (s .kept) i y), p .total);
         spent = λ h.
             omega (
               arith,
-              rw (p .size) at (sum-raised (s .kept) i y (λ some. rw (p .size) (h r (lt-suc-self r) (omega arith)))),
+              rw (p .size) at (sum-one-more (s .kept) i y (λ some. rw (p .size) (h r (lt-suc-self r) (omega arith)))),
               p .spent (drop-last h),
             );
         within = λ j.
             omega (
               arith,
-              at-lowered (s .cover) i x j,
-              at-raised-most (s .kept) i y j,
+              at-less (s .cover) i x j,
+              at-more-most (s .kept) i y j,
               p .within j,
               parts k i j s .there,
               parts k i j s .inside,
@@ -116,8 +117,8 @@ module _ (kw interties : List ℕ) (allowance : ℕ) (cover : List ℕ) (count :
         uncut = λ h j l.
             omega (
               arith,
-              at-lowered (s .cover) i x j,
-              at-raised (s .kept) i y j (rw (p .size) l),
+              at-less (s .cover) i x j,
+              at-more (s .kept) i y j (rw (p .size) l),
               p .uncut (omega arith) j l,
               parts k i j s .there,
               parts k i j s .all h,

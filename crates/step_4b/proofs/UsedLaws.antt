@@ -10,7 +10,7 @@ use native.Mathlib.Omega.{arith}
 use lib.Bits.{bitOr, or-add-and, and-le-l, and-le-r}
 use Rattle.base.specs.Words.{at}
 use Rattle.base.proofs.SumLaws.{below-suc}
-use Rattle.step_4b.specs.Used.{Zeros, Used}
+use Rattle.step_4b.specs.Workers.Used.{Zeros, Used}
 
 -- bits that are 0 together are 0 each
 or-zero-left : (a b : ℕ) → bitOr a b ≡ 0 → a ≡ 0

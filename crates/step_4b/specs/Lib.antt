@@ -1,2 +1,2 @@
 pub mod NewUse
-pub mod Used
+pub mod Workers

@@ -1,4 +1,6 @@
--- The New Use commitments of one holder (01, Step 4b, up to the sums that are shared out). Its records by rising rank: that of rank r has its kW and its intertie at place r. A rank that no record has stands there with 0 kW and changes nothing.
+-- Step 4b for one holder, up to the sums that are shared out (docs/RULES.md, "Opening"): its New Use commitments by rising
+-- rank. The record of rank r has its kW and its intertie at place r. A rank that no record has stands there with 0 kW and
+-- changes nothing.
 use Prim.Native.Nat.{ℕ, zero, suc, _+_, _-_, min}
 use mathlib.Core.List.{List}
 use lib.ListN.{length, set}
@@ -18,7 +20,8 @@ covered kw intertie s = min kw (at (s .cover) intertie)
 abbrev pub stays : ℕ → ℕ → NewUse → ℕ
 stays kw intertie s = min (kw - covered kw intertie s) (s .allowance)
 
--- a record more: the cover is used by what is covered, the allowance falls by what stays, and what stays is summed per intertie. An intertie past the end has no cover, and no place for what stays; that uses allowance all the same
+-- a record more: the cover is used by what is covered, the allowance falls by what stays, and what stays is summed per
+-- intertie. An intertie past the end has no cover, and no place for what stays; that uses allowance all the same
 unfoldable pub nextRank : ℕ → ℕ → NewUse → NewUse
 nextRank kw intertie s =
     record {

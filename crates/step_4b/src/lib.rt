@@ -1,26 +1,15 @@
-// The New Use commitments of one holder: covered first, then cut to its allowance, by rising rank
-// (document 01, Step 4b).
+// Step 4b for one holder: its New Use commitments by rising rank, each covered first and then cut to the allowance left
+// (docs/RULES.md, "Opening").
+use base::numbers::shorter;
+use base::numbers::smaller;
+use base::vectors;
 ghost use mathlib.Core.Path.{_≡_};
 ghost use mathlib.Core.Bool.{true};
 ghost use Prim.Native.Nat.{_+_, _-_, _^_, _≤_, _<_, min};
 ghost use lib.ListN.{length, set};
-ghost use Rattle.base.specs.Words.{at, tab};
+ghost use Rattle.base.specs.Words.{at};
 ghost use Rattle.step_4b.specs.NewUse.{nextRank, newUse};
-ghost use Rattle.step_4b.specs.Used.{Zeros, Used};
-
-// The smaller of two numbers.
-fn smaller(a: u64, b: u64) -> u64
-    ensures { λ r. ⌜ r ≡ min a b ⌝ }
-{
-    if a < b { a } else { b }
-}
-
-// The shorter of two lengths.
-fn shorter(a: usize, b: usize) -> usize
-    ensures { λ r. ⌜ r ≡ min a b ⌝ }
-{
-    if a < b { a } else { b }
-}
+ghost use Rattle.step_4b.specs.Workers.Used.{Zeros, Used};
 
 // An intertie's number as a place in a list.
 fn place(intertie: u16) -> usize
@@ -45,20 +34,10 @@ fn store(numbers: &mut [u64], i: usize, number: u64)
     }
 }
 
-// Makes every number 0.
-fn clear(numbers: &mut [u64])
-    ensures { λ _. ⌜ now (numbers .exit) ≡ tab (length (now (numbers .entry))) (λ i. 0) ⌝ }
-{
-    let mut i = 0;
-    while i < numbers.len() {
-        numbers[i] = 0;
-        i += 1;
-    }
-}
-
 // Covers a record's kW by the cover left on its intertie, which falls by that; hands back the rest.
 fn use_cover(kw: u64, intertie: usize, cover: &mut [u64]) -> u64
-    ensures { λ r. ⌜ (r ≡ kw - min kw (at (now (cover .entry)) intertie)) × (now (cover .exit) ≡ set (now (cover .entry)) intertie (at (now (cover .entry)) intertie - min kw (at (now (cover .entry)) intertie))) ⌝ }
+    ensures { λ r. let before = now (cover .entry) in let covered = min kw (at before intertie) in
+        ⌜ (r ≡ kw - covered) × (now (cover .exit) ≡ set before intertie (at before intertie - covered)) ⌝ }
 {
     let left = read(cover, intertie);
     let covered = smaller(kw, left);
@@ -69,7 +48,8 @@ fn use_cover(kw: u64, intertie: usize, cover: &mut [u64]) -> u64
 // Keeps on the intertie what stays of the rest; hands back the allowance left.
 fn use_allowance(rest: u64, intertie: usize, allowance: u64, kept: &mut [u64]) -> u64
     requires { ⌜ at (now kept) intertie + allowance < 2 ^ 64 ⌝ }
-    ensures { λ r. ⌜ (r ≡ allowance - min rest allowance) × (now (kept .exit) ≡ set (now (kept .entry)) intertie (at (now (kept .entry)) intertie + min rest allowance)) ⌝ }
+    ensures { λ r. let before = now (kept .entry) in let stays = min rest allowance in
+        ⌜ (r ≡ allowance - stays) × (now (kept .exit) ≡ set before intertie (at before intertie + stays)) ⌝ }
 {
     let stays = smaller(rest, allowance);
     let before = read(kept, intertie);
@@ -80,7 +60,8 @@ fn use_allowance(rest: u64, intertie: usize, allowance: u64, kept: &mut [u64]) -
 // Goes on by the record of a rank; hands back the allowance left. A rank without kW changes nothing.
 fn keep_rank(kw: u64, intertie: usize, allowance: u64, cover: &mut [u64], kept: &mut [u64]) -> u64
     requires { ⌜ at (now kept) intertie + allowance < 2 ^ 64 ⌝ }
-    ensures { λ r. ⌜ nextRank kw intertie (record { cover = now (cover .entry); kept = now (kept .entry); allowance = allowance }) ≡ record { cover = now (cover .exit); kept = now (kept .exit); allowance = r } ⌝ }
+    ensures { λ r. ⌜ nextRank kw intertie (record { cover = now (cover .entry); kept = now (kept .entry); allowance = allowance })
+        ≡ record { cover = now (cover .exit); kept = now (kept .exit); allowance = r } ⌝ }
 {
     if kw == 0 {
         return allowance;
@@ -131,9 +112,10 @@ pub fn keep_new_use(
     cover: &mut [u64],
     kept: &mut [u64],
 ) -> u64
-    ensures { λ r. ⌜ newUse (now (kw .entry)) (now (interties .entry)) allowance (now (cover .entry)) (length (now (kept .entry))) ≡ record { cover = now (cover .exit); kept = now (kept .exit); allowance = r } ⌝ }
+    ensures { λ r. ⌜ newUse (now (kw .entry)) (now (interties .entry)) allowance (now (cover .entry)) (length (now (kept .entry)))
+        ≡ record { cover = now (cover .exit); kept = now (kept .exit); allowance = r } ⌝ }
 {
-    clear(kept);
+    vectors::clear(kept);
     let ranks = shorter(kw.len(), interties.len());
     let used = used_ranks(kw, ranks);
     let mut left = allowance;

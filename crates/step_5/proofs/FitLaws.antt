@@ -15,7 +15,7 @@ use Rattle.base.proofs.ChoiceLaws.{pick-by, and-left, and-right, and-both, and-
 use Rattle.base.proofs.SumLaws.{sumTo-bound, allTo-fails, allTo-each, allTo-all}
 use Rattle.step_5.specs.Round.{eligible, together, grossRemaining, eligibleLoads}
 use Rattle.step_5.specs.Outcome.{fitLengths, inRange, fitNumbers}
-use Rattle.step_5.specs.Fit.{Marks, Accepted, Addends, Factors}
+use Rattle.step_5.specs.Workers.Fit.{Marks, Accepted, Addends, Factors}
 
 -- the numbers as the code decides them: T first, then holder by holder
 pub total-over : (total : ℕ) (held loads : List ℕ) → 2880000000 < total → fitNumbers total held loads ≡ false

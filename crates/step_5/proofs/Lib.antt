@@ -1,4 +1,3 @@
-pub mod BaseMore
 pub mod Examples
 pub mod RoundLaws
 pub mod ShareLaws

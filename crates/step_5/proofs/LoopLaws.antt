@@ -15,7 +15,7 @@ use Rattle.base.proofs.SumLaws.{sumTo-zero, sumTo-more}
 use Rattle.base.proofs.WordLaws.{fill-zero, fill-turn, fill-whole, at-fill-past}
 use Rattle.step_5.specs.Round.{eligible, excluded, together, grossRemaining, eligibleLoads, excludes, newlyExcluded, roundMarks}
 use Rattle.step_5.specs.Shares.{rounds, allEligible, settled, shareOf, step5Shares}
-use Rattle.step_5.specs.Fit.{Marks, Accepted, Addends, Quota}
+use Rattle.step_5.specs.Workers.Fit.{Marks, Accepted, Addends, Quota}
 use Rattle.step_5.proofs.RoundLaws.{Settled, marks-most, marks-first, marks-next, mark-next, round-count, round-none, rounds-last, rounds-round, settled-end}
 use Rattle.step_5.proofs.ShareLaws.{divided, covered}
 use Rattle.step_5.proofs.FitLaws.{gross-within, factors}

@@ -10,7 +10,7 @@ use Rattle.base.proofs.ChoiceLaws.{and-false}
 use Rattle.base.proofs.WordLaws.{fill-front, fill-whole, tab-at}
 use Rattle.step_5.specs.Shares.{step5Shares}
 use Rattle.step_5.specs.Outcome.{fitLengths, fitNumbers, step5}
-use Rattle.step_5.specs.Fit.{Accepted}
+use Rattle.step_5.specs.Workers.Fit.{Accepted}
 use Rattle.step_5.proofs.FitLaws.{accepted-lengths, accepted-numbers}
 use Rattle.step_5.proofs.Promise.{promise}
 

@@ -15,7 +15,7 @@ use Rattle.base.proofs.SumLaws.{sumTo-same, sumTo-term}
 use Rattle.base.proofs.WordLaws.{at-tab, length-tab}
 use Rattle.step_5.specs.Round.{eligible, excluded, grossRemaining, eligibleLoads, newlyExcluded, roundMarks}
 use Rattle.step_5.specs.Shares.{rounds, allEligible, settled, shareOf, step5Shares}
-use Rattle.step_5.specs.Fit.{Marks}
+use Rattle.step_5.specs.Workers.Fit.{Marks}
 use Rattle.step_5.proofs.RoundLaws.{Settled, marks-first, rounds-last, rounds-same, round-none, settled-end}
 use Rattle.step_5.proofs.ShareLaws.{quota, divided, covered, share-held, total-within, shares-most}
 

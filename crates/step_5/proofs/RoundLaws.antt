@@ -18,7 +18,7 @@ use Rattle.base.proofs.SumLaws.{sumTo-same, sumTo-add, sumTo-none, sumTo-bound}
 use Rattle.base.proofs.WordLaws.{at-tab, length-tab}
 use Rattle.step_5.specs.Round.{eligible, excluded, excludes, newlyExcluded, roundMarks}
 use Rattle.step_5.specs.Shares.{rounds, allEligible, settled}
-use Rattle.step_5.specs.Fit.{Marks}
+use Rattle.step_5.specs.Workers.Fit.{Marks}
 
 -- excluding an eligible holder adds 1 to its mark
 raised : (b : Bool) (m : ℕ) → (b ≡ true → m ≡ 0) → m + pick b 1 0 ≡ pick b 1 m

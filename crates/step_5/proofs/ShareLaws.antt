@@ -16,7 +16,7 @@ use Rattle.base.proofs.ChoiceLaws.{pick-by, pick-true}
 use Rattle.base.proofs.SumLaws.{sumTo-same, sumTo-le, sumTo-add, sumTo-scale, sumTo-none, sumTo-term, sumTo-zeros}
 use Rattle.step_5.specs.Round.{eligible, excluded, together, grossRemaining, eligibleLoads, excludes, newlyExcluded}
 use Rattle.step_5.specs.Shares.{shareOf}
-use Rattle.step_5.specs.Fit.{Marks}
+use Rattle.step_5.specs.Workers.Fit.{Marks}
 use Rattle.step_5.proofs.RoundLaws.{Settled}
 
 -- what all have together is what the excluded and the eligible have

@@ -1,4 +1,4 @@
 pub mod Round
 pub mod Shares
 pub mod Outcome
-pub mod Fit
+pub mod Workers

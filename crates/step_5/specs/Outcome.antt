@@ -5,21 +5,22 @@ use mathlib.Core.List.{List}
 use lib.ListN.{length}
 use lib.Dec.{leb, eqb}
 use Rattle.base.specs.Choice.{pick}
+use Rattle.base.specs.Limits.{mostHolders, mostHeldKw, mostLoadShare}
 use Rattle.base.specs.Sums.{allTo}
 use Rattle.base.specs.Words.{at, fill}
 use Rattle.step_5.specs.Shares.{step5Shares}
 
 -- by the lengths of held, loads and output: lists of like length, of at most 32 holders, and room for their shares
 abbrev pub fitLengths : ℕ → ℕ → ℕ → Bool
-fitLengths n loads output = eqb n loads && (leb n 32 && leb n output)
+fitLengths n loads output = eqb n loads && (leb n mostHolders && leb n output)
 
 -- held at most 2,880,000,000 kW, which is 20,000,000 for each of E, P and N on 48 interties; a load share at most 100,000,000
 abbrev pub inRange : List ℕ → List ℕ → ℕ → Bool
-inRange held loads i = leb (at held i) 2880000000 && leb (at loads i) 100000000
+inRange held loads i = leb (at held i) mostHeldKw && leb (at loads i) mostLoadShare
 
 -- T at most 2,880,000,000 kW, and every holder's numbers in range
 unfoldable pub fitNumbers : ℕ → List ℕ → List ℕ → Bool
-fitNumbers total held loads = leb total 2880000000 && allTo (length held) (inRange held loads)
+fitNumbers total held loads = leb total mostHeldKw && allTo (length held) (inRange held loads)
 
 -- whether the lists and numbers fit, and the output afterwards
 pub record Outcome : Type 0 where

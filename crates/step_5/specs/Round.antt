@@ -1,4 +1,5 @@
--- One round of Step 5 (01, "Opening"). Holders count from 0: held has a holder's E, P and N together, loads its load share, x its mark.
+-- One round of Step 5 (docs/RULES.md, "Opening"). Holders count from 0: held has a holder's E, P and N together, loads its
+-- load share, x its mark.
 use Prim.Native.Nat.{ℕ, _-_, _*_}
 use mathlib.Core.Bool.{Bool, _&&_}
 use mathlib.Core.List.{List}
@@ -8,10 +9,11 @@ use Rattle.base.specs.Choice.{pick}
 use Rattle.base.specs.Sums.{sumTo}
 use Rattle.base.specs.Words.{at, tab}
 
--- the two marks
+-- the mark of a holder that may yet get a share
 abbrev pub eligible : ℕ
 eligible = 0
 
+-- and of one that gets none
 abbrev pub excluded : ℕ
 excluded = 1
 

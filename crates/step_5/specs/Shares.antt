@@ -1,4 +1,4 @@
--- Step 5 of opening (01, "Opening"): rounds that exclude, then a share for each holder that stays eligible.
+-- Step 5 (docs/RULES.md, "Opening"): rounds that exclude, then a share for each holder that stays eligible.
 use Prim.Native.Nat.{ℕ, zero, suc, _-_, _*_, _/_}
 use mathlib.Core.Bool.{true, false}
 use mathlib.Core.List.{List}
@@ -8,7 +8,8 @@ use Rattle.base.specs.Choice.{pick}
 use Rattle.base.specs.Words.{at, tab}
 use Rattle.step_5.specs.Round.{eligible, grossRemaining, eligibleLoads, newlyExcluded, roundMarks}
 
--- repeat until a round excludes none. The first number bounds how many rounds follow: each but the last excludes a holder, so one more than there are holders is enough (`proofs/RoundLaws`, `rounds-end`)
+-- repeat until a round excludes none. The first number bounds how many rounds follow: each but the last excludes a holder,
+-- so one more than there are holders is enough (`proofs/RoundLaws`, `rounds-end`)
 unfoldable pub rounds : ℕ → List ℕ → List ℕ → ℕ → List ℕ → List ℕ
 rounds total held loads zero x = x
 rounds total held loads (suc more) x =

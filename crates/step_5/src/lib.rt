@@ -1,22 +1,22 @@
-// Step 5 of opening: the import capability that remains, assigned by load share to the holders that
-// haven't received their share of it in Steps 3 and 4 (document 01, "Opening").
+// Step 5: the import capability that remains, assigned by load share to the holders that haven't received their share of
+// it in Steps 3 and 4 (docs/RULES.md, "Opening").
+use base::limits::MOST_HELD_KW;
+use base::limits::MOST_HOLDERS;
+use base::limits::MOST_LOAD_SHARE;
+use base::numbers::excess;
 ghost use mathlib.Core.Path.{_≡_};
 ghost use mathlib.Core.Bool.{_&&_};
 ghost use Prim.Native.Nat.{_-_, _*_, _/_};
 ghost use lib.ListN.{length};
 ghost use lib.Dec.{leb, eqb};
 ghost use Rattle.base.specs.Choice.{pick};
-ghost use Rattle.step_5.specs.Round.{together, grossRemaining, newlyExcluded, roundMarks};
+ghost use Rattle.base.specs.Limits.{mostHeldKw, mostLoadShare};
+ghost use Rattle.step_5.specs.Round.{eligible, together, grossRemaining, newlyExcluded, roundMarks};
 ghost use Rattle.step_5.specs.Shares.{allEligible, settled, step5Shares};
 ghost use Rattle.step_5.specs.Outcome.{fitLengths, fitNumbers, step5};
-ghost use Rattle.step_5.specs.Fit.{Marks, Accepted, Addends, Factors, Quota};
+ghost use Rattle.step_5.specs.Workers.Fit.{Marks, Accepted, Addends, Factors, Quota};
 
-const MOST_HOLDERS: usize = 32;
-
-const MOST_KW: u64 = 2_880_000_000;
-
-const MOST_LOAD_SHARE: u64 = 100_000_000;
-
+// The two marks of a holder.
 const ELIGIBLE: u8 = 0;
 
 const EXCLUDED: u8 = 1;
@@ -30,9 +30,9 @@ fn fit_lengths(held: usize, loads: usize, shares: usize) -> bool
 
 // Whether a holder's kW and load share are within their ranges.
 fn in_range(held: u64, load: u64) -> bool
-    ensures { λ r. ⌜ r ≡ (leb held 2880000000 && leb load 100000000) ⌝ }
+    ensures { λ r. ⌜ r ≡ (leb held mostHeldKw && leb load mostLoadShare) ⌝ }
 {
-    (held <= MOST_KW) & (load <= MOST_LOAD_SHARE)
+    (held <= MOST_HELD_KW) & (load <= MOST_LOAD_SHARE)
 }
 
 // Whether T and every holder's numbers are within their ranges.
@@ -40,7 +40,7 @@ fn fit_numbers(total: u64, held: &[u64], loads: &[u64]) -> bool
     requires { ⌜ length (now loads) ≡ length (now held) ⌝ }
     ensures { λ r. ⌜ r ≡ fitNumbers total (now (held .entry)) (now (loads .entry)) ⌝ }
 {
-    if MOST_KW < total {
+    if MOST_HELD_KW < total {
         return false;
     }
     let mut i = 0;
@@ -53,13 +53,6 @@ fn fit_numbers(total: u64, held: &[u64], loads: &[u64]) -> bool
     true
 }
 
-// What a has above b, 0 if nothing.
-fn excess(a: u64, b: u64) -> u64
-    ensures { λ r. ⌜ r ≡ a - b ⌝ }
-{
-    if b < a { a - b } else { 0 }
-}
-
 // The number if a holder's own mark is the one asked for, else 0.
 fn if_marked(own: u8, mark: u8, number: u64) -> u64
     ensures { λ r. ⌜ r ≡ pick (eqb own mark) number 0 ⌝ }
@@ -70,7 +63,7 @@ fn if_marked(own: u8, mark: u8, number: u64) -> u64
 // What the holders with this mark have together.
 fn sum_marked(mark: u8, marks: &[u8], numbers: &[u64]) -> u64
     requires { ⌜ Addends (now marks) (now numbers) ⌝ }
-    ensures { λ r. ⌜ r ≡ together (length (now (numbers .entry))) mark (now (marks .entry)) (now (numbers .entry)) ⌝ }
+    ensures { λ r. let numbers = now (numbers .entry) in ⌜ r ≡ together (length numbers) mark (now (marks .entry)) numbers ⌝ }
 {
     let mut sum = 0;
     let mut i = 0;
@@ -92,7 +85,7 @@ fn gross_remaining(total: u64, held: &[u64], marks: &[u8]) -> u64
 // 1 if a round excludes the holder: eligible, and held × V, which is `all`, at least G × load share.
 fn newly_excluded(mark: u8, held: u64, load: u64, gross: u64, all: u64) -> u8
     requires { ⌜ Factors held load gross all ⌝ }
-    ensures { λ r. ⌜ r ≡ pick (eqb mark 0 && leb (gross * load) (held * all)) 1 0 ⌝ }
+    ensures { λ r. ⌜ r ≡ pick (eqb mark eligible && leb (gross * load) (held * all)) 1 0 ⌝ }
 {
     if (mark == ELIGIBLE) & (gross * load <= held * all) {
         1
@@ -104,7 +97,8 @@ fn newly_excluded(mark: u8, held: u64, load: u64, gross: u64, all: u64) -> u8
 // Makes one round: excludes its holders together and hands back how many they are.
 fn exclude_round(total: u64, held: &[u64], loads: &[u64], marks: &mut [u8]) -> u8
     requires { ⌜ Accepted total (now held) (now loads) × Marks (length (now held)) (now marks) ⌝ }
-    ensures { λ r. ⌜ (r ≡ newlyExcluded total (now (held .entry)) (now (loads .entry)) (now (marks .entry))) × (now (marks .exit) ≡ roundMarks total (now (held .entry)) (now (loads .entry)) (now (marks .entry))) ⌝ }
+    ensures { λ r. let held = now (held .entry) in let loads = now (loads .entry) in let before = now (marks .entry) in
+        ⌜ (r ≡ newlyExcluded total held loads before) × (now (marks .exit) ≡ roundMarks total held loads before) ⌝ }
 {
     let gross = gross_remaining(total, held, marks);
     let all = sum_marked(ELIGIBLE, marks, loads);
@@ -134,7 +128,7 @@ fn settle(total: u64, held: &[u64], loads: &[u64], marks: &mut [u8])
 // A holder's share: if it is eligible G × load share / V, which is `all`, rounded down, minus held.
 fn share_of(mark: u8, held: u64, load: u64, gross: u64, all: u64) -> u64
     requires { ⌜ Quota mark held load gross all ⌝ }
-    ensures { λ r. ⌜ r ≡ pick (eqb mark 0) (gross * load / all - held) 0 ⌝ }
+    ensures { λ r. ⌜ r ≡ pick (eqb mark eligible) (gross * load / all - held) 0 ⌝ }
 {
     if mark == ELIGIBLE {
         gross * load / all - held
@@ -145,7 +139,8 @@ fn share_of(mark: u8, held: u64, load: u64, gross: u64, all: u64) -> u64
 
 // Writes the shares of holders whose marks are settled.
 fn write_shares(total: u64, held: &[u64], loads: &[u64], marks: &[u8], shares: &mut [u64])
-    requires { ⌜ Accepted total (now held) (now loads) × (now marks ≡ settled total (now held) (now loads)) × (length (now shares) ≡ length (now held)) ⌝ }
+    requires { ⌜ Accepted total (now held) (now loads) × (now marks ≡ settled total (now held) (now loads))
+        × (length (now shares) ≡ length (now held)) ⌝ }
     ensures { λ _. ⌜ now (shares .exit) ≡ step5Shares total (now (held .entry)) (now (loads .entry)) ⌝ }
 {
     let gross = gross_remaining(total, held, marks);
@@ -159,7 +154,8 @@ fn write_shares(total: u64, held: &[u64], loads: &[u64], marks: &[u8], shares: &
 
 // Settles who is excluded, from marks that are all eligible, and writes the shares.
 fn assign(total: u64, held: &[u64], loads: &[u64], marks: &mut [u8], shares: &mut [u64])
-    requires { ⌜ Accepted total (now held) (now loads) × (now marks ≡ allEligible (now held)) × (length (now shares) ≡ length (now held)) ⌝ }
+    requires { ⌜ Accepted total (now held) (now loads) × (now marks ≡ allEligible (now held))
+        × (length (now shares) ≡ length (now held)) ⌝ }
     ensures { λ _. ⌜ now (shares .exit) ≡ step5Shares total (now (held .entry)) (now (loads .entry)) ⌝ }
 {
     settle(total, held, loads, marks);
@@ -169,8 +165,9 @@ fn assign(total: u64, held: &[u64], loads: &[u64], marks: &mut [u8], shares: &mu
 // Writes the Step 5 share of each holder, who holds `held` kW by Steps 3 and 4, into the first places of
 // `shares`. Answers false and writes nothing where the lists are of unlike length or over 32, `shares`
 // is shorter, T or a holder's kW is above 2,880,000,000 or a load share above 100,000,000.
-pub fn step5_shares(total_kw: u64, held: &[u64], loads: &[u64], shares: &mut [u64]) -> bool
-    ensures { λ r. ⌜ (r ≡ step5 «total_kw» (now (held .entry)) (now (loads .entry)) (now (shares .entry)) .fit) × (now (shares .exit) ≡ step5 «total_kw» (now (held .entry)) (now (loads .entry)) (now (shares .entry)) .output) ⌝ }
+pub fn step_5_shares(total_kw: u64, held: &[u64], loads: &[u64], shares: &mut [u64]) -> bool
+    ensures { λ r. let made = step5 «total_kw» (now (held .entry)) (now (loads .entry)) (now (shares .entry)) in
+        ⌜ (r ≡ made .fit) × (now (shares .exit) ≡ made .output) ⌝ }
 {
     let n = held.len();
     if !fit_lengths(n, loads.len(), shares.len()) {

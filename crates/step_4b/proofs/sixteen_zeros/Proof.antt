@@ -1,7 +1,7 @@
 -- `sixteen_zeros` meets its contract: bits that are 0 after i turns are those of i zeros (`UsedLaws`).
 use Rattle.base.proofs.Prelude.{_-_, _≤_, _≡_, now, needs}
 use borrow.Author.Tests.{eqb-true}
-use Rattle.step_4b.specs.Used.{Zeros}
+use Rattle.step_4b.specs.Workers.Used.{Zeros}
 use Rattle.step_4b.proofs.UsedLaws.{zeros-none, zeros-next, zeros-all}
 use Rattle.step_4b.proofs.sixteen_zeros.Statement.{statement}
 use Rattle.step_4b.proofs.sixteen_zeros.Tie as tie

@@ -1,7 +1,7 @@
 -- `used_ranks` meets its contract: sixteen zeros at a time are left out (`UsedLaws`).
 use Rattle.base.proofs.Prelude.{arith, needs}
 use borrow.Author.Tests.{not-false}
-use Rattle.step_4b.specs.Used.{Used}
+use Rattle.step_4b.specs.Workers.Used.{Used}
 use Rattle.step_4b.proofs.UsedLaws.{used-all, used-less}
 use Rattle.step_4b.proofs.used_ranks.Statement.{statement}
 use Rattle.step_4b.proofs.used_ranks.Tie as tie

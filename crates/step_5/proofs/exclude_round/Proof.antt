@@ -40,9 +40,13 @@ newly-excluded-requires c κs =
 
 -- the holder's test is the definition's
 tested : (c : tie.After-newly-excluded Inv-loop μ-loop) →
-    let a = c .before .before .before .before .before .before .before .before .before .before .before .before .before .args in
-    Tested (a .total) (now (a .held)) (now (a .loads)) (now (a .marks)) (c .before .before .before .before .before .loop .marks) (c .before .before .before .before .before .loop .i)
-    (c .before .before .before .before .before .before .before .before .gross-remaining .result) (c .before .before .before .before .before .before .sum-marked .result) (c .newly-excluded .result)
+    (let start : tie.Start Inv-loop μ-loop = search needs in
+    let at-loop : tie.At-loop Inv-loop μ-loop = search needs in
+    let after-gross-remaining : tie.After-gross-remaining Inv-loop μ-loop = search needs in
+    let after-sum-marked : tie.After-sum-marked Inv-loop μ-loop = search needs in
+    let a = start .args in
+    Tested (a .total) (now (a .held)) (now (a .loads)) (now (a .marks)) (at-loop .loop .marks) (at-loop .loop .i)
+    (after-gross-remaining .gross-remaining .result) (after-sum-marked .sum-marked .result) (c .newly-excluded .result))
 tested c =
     let start : tie.Start Inv-loop μ-loop = search needs in
     let in-loop : tie.In-loop Inv-loop μ-loop = search needs in

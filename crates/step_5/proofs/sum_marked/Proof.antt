@@ -15,8 +15,10 @@ loop-holds c = summed-none _ _ _
 
 -- the next turn's sum
 next : (c : tie.After-if-marked Inv-loop μ-loop) →
-    let a = c .before .before .before .before .before .before .before .args in
-    Summed (a .mark) (now (a .marks)) (now (a .numbers)) (c .before .before .before .before .loop .sum + c .if-marked .result) (c .before .before .before .before .loop .i + 1)
+    (let start : tie.Start Inv-loop μ-loop = search needs in
+    let at-loop : tie.At-loop Inv-loop μ-loop = search needs in
+    let a = start .args in
+    Summed (a .mark) (now (a .marks)) (now (a .numbers)) (at-loop .loop .sum + c .if-marked .result) (at-loop .loop .i + 1))
 next c =
     let start : tie.Start Inv-loop μ-loop = search needs in
     let at-loop : tie.At-loop Inv-loop μ-loop = search needs in

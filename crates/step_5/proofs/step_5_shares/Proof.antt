@@ -1,13 +1,13 @@
--- `step5_shares` meets its contract: lists that don't fit, numbers that don't, and the shares.
+-- `step_5_shares` meets its contract: lists that don't fit, numbers that don't, and the shares.
 use Rattle.base.proofs.Prelude.{sym, ap, _∙_, _++_, length, drop, replicate, now, needs}
 use borrow.Author.Tests.{not-true, not-false}
 use lib.Seq.{length-take-le}
 use Rattle.step_5.specs.Outcome.{Outcome}
-use Rattle.step_5.proofs.BaseMore.{take-replicate}
+use Rattle.base.proofs.WordLaws.{take-replicate}
 use Rattle.step_5.proofs.FitLaws.{FitLengths, fit-lengths, accepted}
 use Rattle.step_5.proofs.OutcomeLaws.{outcome-lengths, outcome-numbers, outcome-shares, shares-front}
-use Rattle.step_5.proofs.step5_shares.Statement.{statement}
-use Rattle.step_5.proofs.step5_shares.Tie as tie
+use Rattle.step_5.proofs.step_5_shares.Statement.{statement}
+use Rattle.step_5.proofs.step_5_shares.Tie as tie
 
 returns : tie.Need-returns
 returns c =
@@ -17,8 +17,8 @@ returns c =
 
 -- what the lengths' test leaves
 lengths : (c : tie.Else1) →
-    let a = c .before .before .before .before .before .args in
-    FitLengths (length (now (a .held))) (length (now (a .loads))) (length (now (a .shares)))
+    (let start : tie.Start = search needs in let a = start .args in
+    FitLengths (length (now (a .held))) (length (now (a .loads))) (length (now (a .shares))))
 lengths c = fit-lengths _ _ _ (sym (c .before .fit-lengths .ensures) ∙ not-false _ (c .if1 .left))
 
 returns-2 : tie.Need-returns-2
@@ -72,8 +72,8 @@ returns-3 c =
           ∙ sym (ap (λ (r : Outcome). r .output) o),
     )
 
-pub step5-shares-spec : {M : Type 1} → statement M
-step5-shares-spec =
+pub step-5-shares-spec : {M : Type 1} → statement M
+step-5-shares-spec =
     tie.close (tie.spec (λ c κs. search needs) returns (λ c κs. lengths c .paired) returns-2 array-borrow-prefix-marks
     slice-aggregate-assign slice-relend-prefix-assign slice-aggregate-assign-2 assign-requires (λ c. search needs)
     returns-3)
