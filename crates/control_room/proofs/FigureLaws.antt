@@ -19,13 +19,6 @@ few-holders s i e t =
     leb-true (holders s) 32
     (and-right (leb (interties s) 48) (leb (holders s) 32) (and-left (leb (interties s) 48 && leb (holders s) 32) (ltb i (interties s)) (sym e ∙ t)))
 
--- a holder of the state: there are at most 48 interties to sum over
-pub few-interties : (s : List ℕ) (h : ℕ) {b : Bool} → b ≡ isHolder s h → b ≡ true → interties s ≤ 48
-unfolding isHolder sizesFit
-few-interties s h e t =
-    leb-true (interties s) 48
-    (and-left (leb (interties s) 48) (leb (holders s) 32) (and-left (leb (interties s) 48 && leb (holders s) 32) (ltb h (holders s)) (sym e ∙ t)))
-
 -- no such intertie, no such holder
 pub no-intertie : (s : List ℕ) (i : ℕ) {b : Bool} → b ≡ isIntertie s i → b ≡ false →
     _≡_ {A = IntertieFigures} (record { limit = 0; outside = 0; reserved = 0; placed = 0; taken = 0; unassigned = 0 }) (intertieFigures s i)

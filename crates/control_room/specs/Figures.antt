@@ -4,14 +4,16 @@ use mathlib.Core.Bool.{Bool, _&&_}
 use mathlib.Core.List.{List}
 use lib.Dec.{leb, ltb}
 use Rattle.base.specs.Choice.{pick}
-use Rattle.state.specs.Layout.{interties, holders, limitOf, outsideOf, step5ShareOf, reservedOf, existingOf, preRaOf, newUseOf, unassignedOf, unplacedOf, placedOf, takenOf, lockedOf, onIntertie, ofHolder}
+use Rattle.base.specs.Limits.{mostInterties, mostHolders}
+use Rattle.state.specs.Layout.{interties, holders, limitOf, outsideOf, existingOf, preRaOf, newUseOf, unassignedOf, onIntertie}
+use Rattle.state.specs.Layout.{step5ShareOf, reservedOf, unplacedOf, placedOf, takenOf, lockedOf, ofHolder}
 use Rattle.control_room.specs.Trades.{bought, sold}
 use Rattle.control_room.specs.declared.IntertieFigures.{IntertieFigures}
 use Rattle.control_room.specs.declared.HolderFigures.{HolderFigures}
 
--- at most 48 interties and 32 holders
+-- no more interties and holders than a sheet may have
 unfoldable pub sizesFit : List ℕ → Bool
-sizesFit s = leb (interties s) 48 && leb (holders s) 32
+sizesFit s = leb (interties s) mostInterties && leb (holders s) mostHolders
 
 -- whether the state has an intertie, or a holder, of that number
 unfoldable pub isIntertie : List ℕ → ℕ → Bool

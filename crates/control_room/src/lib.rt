@@ -4,16 +4,11 @@ mod sums;
 mod trades;
 
 use base::limits::STATE_WORDS;
+use journal::sizes::ANSWERS_WORDS;
+use journal::sizes::CALLS_WORDS;
 use state::layout;
 ghost use mathlib.Core.Path.{_≡_};
 ghost use Rattle.control_room.specs.Figures.{intertieFigures, holderFigures, isIntertie, isHolder};
-
-// The most calls of a list, and the words of so many calls and of their answers.
-pub const MOST_CALLS: usize = 16_384;
-
-pub const CALLS_WORDS: usize = 98_304;
-
-pub const ANSWERS_WORDS: usize = 49_152;
 
 // The figures of an intertie, in kW: reserved is E, P and N of all holders on it, placed and taken are
 // those of all holders.
@@ -42,14 +37,14 @@ pub struct HolderFigures {
 fn is_intertie(state: &[u32; STATE_WORDS], intertie: u32) -> bool
     ensures { λ r. ⌜ r ≡ isIntertie (now (state .entry)) intertie ⌝ }
 {
-    sums::sizes_in_range(state) & (intertie < sums::intertie_count(state))
+    sums::sizes_in_range(state) & (intertie < state::intertie_count(state))
 }
 
 // Whether the state's sizes are in range and the holder is below H.
 fn is_holder(state: &[u32; STATE_WORDS], holder: u32) -> bool
     ensures { λ r. ⌜ r ≡ isHolder (now (state .entry)) holder ⌝ }
 {
-    sums::sizes_in_range(state) & (holder < sums::holder_count(state))
+    sums::sizes_in_range(state) & (holder < state::holder_count(state))
 }
 
 // The figures of an intertie; all 0 where the state has none of that number.
@@ -92,10 +87,10 @@ pub fn holder_figures(
             step_5_share: sums::field_word(state, layout::STEP_5_SHARE, holder),
             bought: trades::bought(calls, answers, count, holder),
             sold: trades::sold(calls, answers, count, holder),
-            placed: sums::of_holder(state, layout::PLACED, holder),
+            placed: state::of_holder(state, layout::PLACED, holder),
             unplaced: sums::field_word(state, layout::UNPLACED, holder),
             reserved: sums::field_word(state, layout::RESERVED, holder),
-            locked: sums::of_holder(state, layout::LOCKED, holder),
+            locked: state::of_holder(state, layout::LOCKED, holder),
         };
     }
     HolderFigures {

@@ -1,32 +1,25 @@
-// Fields of the state: a word of them, and the sums over holders and over interties.
-use base::limits::MOST_HOLDERS;
-use base::limits::MOST_INTERTIES;
+// Fields of the state: a word of them, and the sums over holders.
+use base::limits;
 use base::limits::STATE_WORDS;
 use state::layout;
 ghost use mathlib.Core.Path.{_≡_};
 ghost use Prim.Native.Nat.{ℕ, _+_, _*_, _≤_};
 ghost use Rattle.base.specs.Sums.{sumTo};
 ghost use Rattle.base.specs.Words.{at};
-ghost use Rattle.state.specs.Layout.{place, interties, holders};
+ghost use Rattle.base.specs.Limits.{mostHolders};
+ghost use Rattle.state.specs.Layout.{place, holders};
 ghost use Rattle.control_room.specs.Figures.{sizesFit, reservedOn};
 
-pub(super) fn intertie_count(state: &[u32; STATE_WORDS]) -> u32
-    ensures { λ r. ⌜ r ≡ interties (now (state .entry)) ⌝ }
-{
-    state::word(state, layout::SIZES, layout::INTERTIES)
-}
+const MOST_INTERTIES: u32 = limits::MOST_INTERTIES as u32;
 
-pub(super) fn holder_count(state: &[u32; STATE_WORDS]) -> u32
-    ensures { λ r. ⌜ r ≡ holders (now (state .entry)) ⌝ }
-{
-    state::word(state, layout::SIZES, layout::HOLDERS)
-}
+const MOST_HOLDERS: u32 = limits::MOST_HOLDERS as u32;
 
-// Whether there are at most 48 interties and 32 holders.
+// Whether the state has no more interties and holders than a sheet may have.
 pub(super) fn sizes_in_range(state: &[u32; STATE_WORDS]) -> bool
     ensures { λ r. ⌜ r ≡ sizesFit (now (state .entry)) ⌝ }
 {
-    (intertie_count(state) <= MOST_INTERTIES as u32) & (holder_count(state) <= MOST_HOLDERS as u32)
+    (state::intertie_count(state) <= MOST_INTERTIES)
+        & (state::holder_count(state) <= MOST_HOLDERS)
 }
 
 // The word of an intertie or a holder in a field.
@@ -38,23 +31,12 @@ pub(super) fn field_word(state: &[u32; STATE_WORDS], field: u32, number: u32) ->
 
 // A field of the pairs on an intertie, summed over the holders.
 pub(super) fn on_intertie(state: &[u32; STATE_WORDS], field: u32, intertie: u32) -> u64
-    requires { ⌜ holders (now state) ≤ 32 ⌝ }
-    ensures { λ r. ⌜ (r ≡ sumTo (holders (now (state .entry))) (λ (h : ℕ). at (now (state .entry)) (place (field + h) intertie))) × (r ≤ 32 * 4294967295) ⌝ }
+    requires { ⌜ holders (now state) ≤ mostHolders ⌝ }
+    ensures { λ r. let s = now (state .entry) in
+        ⌜ (r ≡ sumTo (holders s) (λ (h : ℕ). at s (place (field + h) intertie))) × (r ≤ mostHolders * 4294967295) ⌝ }
 {
     let mut sum: u64 = 0;
-    for holder in 0..holder_count(state) {
-        sum += state::pair_word(state, field, holder, intertie) as u64;
-    }
-    sum
-}
-
-// A field of the pairs of a holder, summed over the interties.
-pub(super) fn of_holder(state: &[u32; STATE_WORDS], field: u32, holder: u32) -> u64
-    requires { ⌜ interties (now state) ≤ 48 ⌝ }
-    ensures { λ r. ⌜ r ≡ sumTo (interties (now (state .entry))) (λ (i : ℕ). at (now (state .entry)) (place (field + holder) i)) ⌝ }
-{
-    let mut sum: u64 = 0;
-    for intertie in 0..intertie_count(state) {
+    for holder in 0..state::holder_count(state) {
         sum += state::pair_word(state, field, holder, intertie) as u64;
     }
     sum
@@ -62,7 +44,7 @@ pub(super) fn of_holder(state: &[u32; STATE_WORDS], field: u32, holder: u32) -> 
 
 // E, P and N of all holders on an intertie.
 pub(super) fn reserved_on(state: &[u32; STATE_WORDS], intertie: u32) -> u64
-    requires { ⌜ holders (now state) ≤ 32 ⌝ }
+    requires { ⌜ holders (now state) ≤ mostHolders ⌝ }
     ensures { λ r. ⌜ r ≡ reservedOn (now (state .entry)) intertie ⌝ }
 {
     on_intertie(state, layout::EXISTING, intertie)

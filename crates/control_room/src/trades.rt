@@ -1,16 +1,18 @@
 // The granted trades of a list: what a holder bought and sold by them.
-use super::ANSWERS_WORDS;
-use super::CALLS_WORDS;
-use super::MOST_CALLS;
 use base::encoding::ANSWER_WORDS;
 use base::encoding::CALL_WORDS;
 use base::encoding::TRADE;
+use journal::sizes::ANSWERS_WORDS;
+use journal::sizes::CALLS_WORDS;
+use journal::sizes::MOST_CALLS;
 ghost use mathlib.Core.Path.{_≡_};
 ghost use Prim.Native.Nat.{ℕ, _+_, _*_, _≤_, _<_, min};
 ghost use Rattle.base.specs.Sums.{sumTo};
+ghost use Rattle.base.specs.Encoding.{callWords};
+ghost use Rattle.journal.specs.Sizes.{mostCalls};
 ghost use Rattle.control_room.specs.Trades.{tradedIn, bought, sold};
 
-// The words of a call: its kind is the first.
+// The words of a trade: its kind is the first.
 const SELLER: usize = 1;
 
 const BUYER: usize = 2;
@@ -25,7 +27,7 @@ fn traded_in(
     party: usize,
     holder: u32,
 ) -> u32
-    requires { ⌜ (n < 16384) × (party < 6) ⌝ }
+    requires { ⌜ (n < mostCalls) × (party < callWords) ⌝ }
     ensures { λ r. ⌜ r ≡ tradedIn (now (calls .entry)) (now (answers .entry)) party holder n ⌝ }
 {
     let first = CALL_WORDS * n;
@@ -38,7 +40,7 @@ fn traded_in(
 
 // How many calls there are words for, and no more than there are calls.
 fn within(count: usize) -> usize
-    ensures { λ r. ⌜ (r ≡ min count 16384) × (r ≤ 16384) ⌝ }
+    ensures { λ r. ⌜ (r ≡ min count mostCalls) × (r ≤ mostCalls) ⌝ }
 {
     if count < MOST_CALLS {
         return count;
@@ -54,8 +56,8 @@ fn traded(
     party: usize,
     holder: u32,
 ) -> u64
-    requires { ⌜ party < 6 ⌝ }
-    ensures { λ r. ⌜ r ≡ sumTo (min count 16384) (tradedIn (now (calls .entry)) (now (answers .entry)) party holder) ⌝ }
+    requires { ⌜ party < callWords ⌝ }
+    ensures { λ r. ⌜ r ≡ sumTo (min count mostCalls) (tradedIn (now (calls .entry)) (now (answers .entry)) party holder) ⌝ }
 {
     let end = within(count);
     let mut sum: u64 = 0;
@@ -67,6 +69,7 @@ fn traded(
     sum
 }
 
+// What a holder bought by the granted trades among the first calls.
 pub(super) fn bought(
     calls: &[u32; CALLS_WORDS],
     answers: &[u64; ANSWERS_WORDS],
@@ -78,6 +81,7 @@ pub(super) fn bought(
     traded(calls, answers, count, BUYER, holder)
 }
 
+// What a holder sold by them.
 pub(super) fn sold(
     calls: &[u32; CALLS_WORDS],
     answers: &[u64; ANSWERS_WORDS],

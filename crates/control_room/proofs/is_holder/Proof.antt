@@ -6,7 +6,9 @@ use Rattle.control_room.proofs.is_holder.Tie as tie
 
 returns : tie.Need-returns
 unfolding isHolder
-returns c = rw (c .before .sizes-in-range .ensures, c .holder-count .ensures)
+returns c =
+    let after-sizes-in-range : tie.After-sizes-in-range = search needs in
+    rw (after-sizes-in-range .sizes-in-range .ensures, c .holder-count .ensures)
 
 pub is-holder-spec : {M : Type 1} → statement M
 is-holder-spec =

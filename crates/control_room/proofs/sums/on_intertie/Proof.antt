@@ -1,7 +1,7 @@
 -- `on_intertie` meets its contract: after h turns the sum is that of the first h holders.
 use Rattle.base.proofs.Prelude.{ℕ, _+_, _-_, _*_, _≤_, _≡_, arith, needs, sumTo, at}
 use Rattle.state.specs.Layout.{place}
-use Rattle.state.proofs.BaseMore.{sum-turn, sum-end}
+use Rattle.base.proofs.SumLaws.{sum-more, sum-done}
 use Rattle.control_room.proofs.sums.on_intertie.Statement.{statement}
 use Rattle.control_room.proofs.sums.on_intertie.Tie as tie
 
@@ -24,12 +24,12 @@ add-sum c =
 loop-again : tie.Need-loop-again Inv-loop μ-loop
 loop-again c =
     let at-loop : tie.At-loop Inv-loop μ-loop = search needs in
-    (omega arith, omega arith, sum-turn _ _ (at-loop .loop .inv .2) (c .pair-word .ensures))
+    (omega arith, omega arith, sum-more _ _ _ _ (at-loop .loop .inv .2) (c .pair-word .ensures))
 
 returns : tie.Need-returns Inv-loop μ-loop
 returns c =
     let after-holder-count : tie.After-holder-count Inv-loop μ-loop = search needs in
-    (sum-end _ _ _ (c .before .loop .inv .2) (omega (arith, after-holder-count .holder-count .ensures)) (omega (arith, after-holder-count .holder-count .ensures)), omega (arith, after-holder-count .holder-count .ensures))
+    (sum-done _ _ _ _ (c .before .loop .inv .2) (omega (arith, after-holder-count .holder-count .ensures)) (omega (arith, after-holder-count .holder-count .ensures)), omega (arith, after-holder-count .holder-count .ensures))
 
 pub on-intertie-spec : {M : Type 1} → statement M
 on-intertie-spec =

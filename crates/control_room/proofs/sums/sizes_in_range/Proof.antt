@@ -6,7 +6,9 @@ use Rattle.control_room.proofs.sums.sizes_in_range.Tie as tie
 
 returns : tie.Need-returns
 unfolding sizesFit
-returns c = rw (c .before .intertie-count .ensures, c .holder-count .ensures)
+returns c =
+    let after-intertie-count : tie.After-intertie-count = search needs in
+    rw (after-intertie-count .intertie-count .ensures, c .holder-count .ensures)
 
 pub sizes-in-range-spec : {M : Type 1} → statement M
 sizes-in-range-spec =

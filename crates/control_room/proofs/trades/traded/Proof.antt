@@ -1,6 +1,6 @@
 -- `traded` meets its contract: after n turns the sum is that of the first n calls.
 use Rattle.base.proofs.Prelude.{_-_, _*_, _≤_, _≡_, arith, needs, sumTo}
-use Rattle.state.proofs.BaseMore.{sum-turn, sum-end}
+use Rattle.base.proofs.SumLaws.{sum-more, sum-done}
 use Rattle.control_room.specs.Trades.{tradedIn}
 use Rattle.control_room.proofs.trades.traded.Statement.{statement}
 use Rattle.control_room.proofs.trades.traded.Tie as tie
@@ -24,12 +24,12 @@ add-sum c =
 loop-again : tie.Need-loop-again Inv-loop μ-loop
 loop-again c =
     let at-loop : tie.At-loop Inv-loop μ-loop = search needs in
-    (omega arith, omega arith, sum-turn _ _ (at-loop .loop .inv .2) (c .traded-in .ensures))
+    (omega arith, omega arith, sum-more _ _ _ _ (at-loop .loop .inv .2) (c .traded-in .ensures))
 
 returns : tie.Need-returns Inv-loop μ-loop
 returns c =
     let after-within : tie.After-within Inv-loop μ-loop = search needs in
-    sum-end _ _ _ (c .before .loop .inv .2) (omega (arith, after-within .within .ensures .0)) (omega (arith, after-within .within .ensures .0))
+    sum-done _ _ _ _ (c .before .loop .inv .2) (omega (arith, after-within .within .ensures .0)) (omega (arith, after-within .within .ensures .0))
 
 pub traded-spec : {M : Type 1} → statement M
 traded-spec =
