@@ -18,8 +18,7 @@ const MOST_HOLDERS: u32 = limits::MOST_HOLDERS as u32;
 pub(super) fn sizes_in_range(state: &[u32; STATE_WORDS]) -> bool
     ensures { λ r. ⌜ r ≡ sizesFit (now (state .entry)) ⌝ }
 {
-    (state::intertie_count(state) <= MOST_INTERTIES)
-        & (state::holder_count(state) <= MOST_HOLDERS)
+    (state::intertie_count(state) <= MOST_INTERTIES) & (state::holder_count(state) <= MOST_HOLDERS)
 }
 
 // The word of an intertie or a holder in a field.

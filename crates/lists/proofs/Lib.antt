@@ -2,7 +2,7 @@ pub mod ChangeLaws
 pub mod GrantedLaws
 pub mod CallLaws
 pub mod ListLaws
-pub mod Demand3
+pub mod BalancesHold
 pub mod Examples
 pub mod EncodedLaws
 pub mod RunLaws

@@ -1,4 +1,4 @@
--- Demand 3 of the function that runs a list, and what can be read in the grants buffer after it.
+-- The balances of the function that runs a list, and what can be read in the grants buffer after it.
 use Prim.Native.Nat.{ℕ, zero, suc, _+_, _*_, _≤_, _<_}
 use mathlib.Core.Path.{_≡_, sym, ap, _∙_}
 use mathlib.Core.Bool.{true}
@@ -18,7 +18,7 @@ use Rattle.lists.specs.Balances.{Balances, StillSays}
 use Rattle.lists.specs.Encoded.{wordsOf, isClosing, closingsBefore, lentTo, callsOf, accepted, withLent, resultAt, grantsAfter, run}
 use Rattle.lists.proofs.EncodedLaws.{put-length}
 use Rattle.lists.proofs.RunLaws.{closings-suc, lent-length, grants-kept}
-use Rattle.lists.proofs.Demand3.{demand-3}
+use Rattle.lists.proofs.BalancesHold.{balances-hold}
 
 -- a run that is done leaves the state that the calls leave
 run-state : (encoded s grants answers : List ℕ) → accepted encoded (length answers) ≡ true →
@@ -30,12 +30,12 @@ run-state encoded s grants answers e = rw e
 pub run-balances : (sheet words encoded grants answers : List ℕ) → openRefusal sheet words ≡ 0 → accepted encoded (length answers) ≡ true →
     Balances (ofSheet sheet) (callsOf encoded grants) (opened sheet words .state) (run encoded (opened sheet words .state) grants answers .state)
 run-balances sheet words encoded grants answers e ok =
-    rw (run-state encoded (opened sheet words .state) grants answers ok) (demand-3 sheet words (callsOf encoded grants) e .balances)
+    rw (run-state encoded (opened sheet words .state) grants answers ok) (balances-hold sheet words (callsOf encoded grants) e .balances)
 
 pub run-still-says : (sheet words encoded grants answers : List ℕ) → openRefusal sheet words ≡ 0 → accepted encoded (length answers) ≡ true →
     StillSays (ofSheet sheet) (callsOf encoded grants) (opened sheet words .state) (run encoded (opened sheet words .state) grants answers .state)
 run-still-says sheet words encoded grants answers e ok =
-    rw (run-state encoded (opened sheet words .state) grants answers ok) (demand-3 sheet words (callsOf encoded grants) e .words-say)
+    rw (run-state encoded (opened sheet words .state) grants answers ok) (balances-hold sheet words (callsOf encoded grants) e .words-say)
 
 -- words put back at `from`: they stand there, and 1536 words that end before stay
 abbrev putAt : ℕ → List ℕ → List ℕ → List ℕ

@@ -1,4 +1,5 @@
--- Demand 3, in the words of the rules: the four things that hold after every list of calls on a state that a sheet opened to.
+-- The balances of the year (docs/RULES.md, "Balances of whole lists"): the four things that hold after every list of calls on
+-- a state that a sheet opened to. Bought, sold, locked, and what closings and takings granted are summed in Year.
 use Prim.Native.Nat.{ℕ, _+_, _*_, _≤_, _<_}
 use mathlib.Core.Path.{_≡_}
 use mathlib.Core.List.{List}
@@ -7,7 +8,8 @@ use Rattle.steps.specs.Inputs.{Inputs, ofSheet}
 use Rattle.steps.specs.Step4a.{preRaGranted}
 use Rattle.steps.specs.Step4b.{newUseGranted}
 use Rattle.steps.specs.Step5to7.{held, reservedOn, step5Share, step7Total}
-use Rattle.state.specs.Layout.{interties, holders, limitOf, outsideOf, loadShareOf, step5ShareOf, step7TotalOf, reservedOf, existingOf, preRaOf, newUseOf, unassignedOf, unplacedOf, lockedOf, ofHolder}
+use Rattle.state.specs.Layout.{interties, holders, limitOf, outsideOf, loadShareOf, step5ShareOf, step7TotalOf, reservedOf}
+use Rattle.state.specs.Layout.{existingOf, preRaOf, newUseOf, unassignedOf, unplacedOf, lockedOf, ofHolder}
 use Rattle.opening.specs.Open.{openRefusal, opened}
 use Rattle.lists.specs.Calls.{Call, after}
 use Rattle.lists.specs.Year.{bought, sold, locked, closed, taken}
@@ -52,5 +54,5 @@ pub record AfterCalls (sheet words : List ℕ) (calls : List Call) : Type 0 wher
   pub words-say : StillSays (ofSheet sheet) calls (opened sheet words .state) (after calls (opened sheet words .state))
 
 -- every sheet that opens and every list of calls, the empty one and refused calls too
-abbrev pub Demand3 : Type 0
-Demand3 = (sheet words : List ℕ) (calls : List Call) → openRefusal sheet words ≡ 0 → AfterCalls sheet words calls
+abbrev pub YearBalances : Type 0
+YearBalances = (sheet words : List ℕ) (calls : List Call) → openRefusal sheet words ≡ 0 → AfterCalls sheet words calls

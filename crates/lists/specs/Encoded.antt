@@ -1,10 +1,12 @@
--- A list of calls as 32-bit words, six to a call, and what running it over lent words leaves.
+-- A list of calls as 32-bit words (docs/RULES.md, "Balances of whole lists"), and what running it over lent words leaves.
 use Prim.Native.Nat.{ℕ, zero, suc, _+_, _*_, _/_, _%_, _^_}
 use mathlib.Core.Bool.{Bool, true, false, _&&_}
 use mathlib.Core.List.{List, [], _∷_, _++_}
 use lib.Dec.{leb, eqb}
 use lib.ListN.{length, take, drop, set}
 use Rattle.base.specs.Choice.{pick}
+use Rattle.base.specs.Encoding.{callWords, answerWords, tradeCall, requestCall, closeCall, takeCall, moveCall, lockCall}
+use Rattle.base.specs.Limits.{grantsWords}
 use Rattle.base.specs.Sums.{sumTo, allTo}
 use Rattle.base.specs.Words.{at}
 use Rattle.base.specs.declared.Answer.{Answer}
@@ -13,21 +15,21 @@ use Rattle.lists.specs.Calls as Calls
 
 -- how many calls the words are
 abbrev pub callCount : List ℕ → ℕ
-callCount encoded = length encoded / 6
+callCount encoded = length encoded / callWords
 
--- the six words of call n
+-- the words of call n
 abbrev pub wordsOf : List ℕ → ℕ → List ℕ
-wordsOf encoded n = take 6 (drop (6 * n) encoded)
+wordsOf encoded n = take callWords (drop (callWords * n) encoded)
 
--- word 0 is the kind: 1 trade, 2 request, 3 close, 4 take, 5 move, 6 lock
+-- word 0 is the kind
 abbrev pub kindOf : List ℕ → ℕ
 kindOf words = at words 0
 
 abbrev pub knownKind : ℕ → Bool
-knownKind kind = leb 1 kind && leb kind 6
+knownKind kind = leb tradeCall kind && leb kind lockCall
 
 abbrev pub isClosing : List ℕ → Bool
-isClosing words = eqb (kindOf words) 3
+isClosing words = eqb (kindOf words) closeCall
 
 -- words 1 to 3 are numbers a, b, c; words 4 and 5 are the low and the high word of the kW
 abbrev pub kwOf : ℕ → ℕ → ℕ
@@ -37,24 +39,25 @@ kwOf low high = low + 2 ^ 32 * high
 -- move a giver, b taker, c intertie; lock a holder, b intertie, c term
 unfoldable pub numbered : (kind a b c kw : ℕ) → Call
 numbered kind a b c kw =
-    pick (eqb kind 1) (Calls.trade a b kw)
-    (pick (eqb kind 2) (Calls.request a b kw)
-    (pick (eqb kind 4) (Calls.take a b kw c)
-    (pick (eqb kind 5) (Calls.move a b c kw)
+    pick (eqb kind tradeCall) (Calls.trade a b kw)
+    (pick (eqb kind requestCall) (Calls.request a b kw)
+    (pick (eqb kind takeCall) (Calls.take a b kw c)
+    (pick (eqb kind moveCall) (Calls.move a b c kw)
     (Calls.lock a b kw c))))
 
--- the call that six words are; a closing gets the words of the grants buffer that are lent to it
+-- the call that words are; a closing gets the words of the grants buffer that are lent to it
 abbrev pub callOf : List ℕ → List ℕ → Call
 callOf words lent =
-    pick (isClosing words) (Calls.close lent) (numbered (kindOf words) (at words 1) (at words 2) (at words 3) (kwOf (at words 4) (at words 5)))
+    pick (isClosing words) (Calls.close lent)
+    (numbered (kindOf words) (at words 1) (at words 2) (at words 3) (kwOf (at words 4) (at words 5)))
 
 -- the closings among the first n calls
 unfoldable pub closingsBefore : List ℕ → ℕ → ℕ
 closingsBefore encoded n = sumTo n (λ m. pick (isClosing (wordsOf encoded m)) 1 0)
 
--- closing k is lent words 1536·k to 1536·(k + 1) of the grants buffer, as many of them as there are
+-- closing k, counted from 0, is lent the k-th 1,536 words of the grants buffer, as many of them as there are
 abbrev pub lentTo : List ℕ → ℕ → List ℕ
-lentTo grants k = take 1536 (drop (1536 * k) grants)
+lentTo grants k = take grantsWords (drop (grantsWords * k) grants)
 
 -- call n
 unfoldable pub callAt : List ℕ → List ℕ → ℕ → Call
@@ -68,20 +71,22 @@ firstCalls encoded grants (suc n) = firstCalls encoded grants n ++ (callAt encod
 abbrev pub callsOf : List ℕ → List ℕ → List Call
 callsOf encoded grants = firstCalls encoded grants (callCount encoded)
 
--- whether the words are a list of calls, with room for three words of answer to each
+-- whether the words are a list of calls, with room for the words of their answers
 unfoldable pub accepted : List ℕ → ℕ → Bool
-accepted encoded answerWords =
-    eqb (length encoded % 6) 0
-    && leb (3 * callCount encoded) answerWords
+accepted encoded room =
+    eqb (length encoded % callWords) 0
+    && leb (answerWords * callCount encoded) room
     && allTo (callCount encoded) (λ n. knownKind (kindOf (wordsOf encoded n)))
 
--- the answers with the three words of call n written: refusal, kW, passes
+-- the answers with those of call n written: refusal, kW, passes
 abbrev pub withAnswer : List ℕ → ℕ → Answer → List ℕ
-withAnswer answers n a = set (set (set answers (3 * n) (a .refusal)) (3 * n + 1) (a .kw)) (3 * n + 2) (a .passes)
+withAnswer answers n a =
+    set (set (set answers (answerWords * n) (a .refusal)) (answerWords * n + 1) (a .kw)) (answerWords * n + 2) (a .passes)
 
 -- the grants after a call: a closing puts what it was lent, as it left it, back at its place; other calls leave them
 abbrev pub withLent : List ℕ → List ℕ → ℕ → List ℕ → List ℕ
-withLent words grants from lent = pick (isClosing words) (take from grants ++ (lent ++ drop (from + 1536) grants)) grants
+withLent words grants from lent =
+    pick (isClosing words) (take from grants ++ (lent ++ drop (from + grantsWords) grants)) grants
 
 module _ (encoded s grants : List ℕ) where
   -- what call n gives, on the state as the calls before it left it
@@ -92,7 +97,7 @@ module _ (encoded s grants : List ℕ) where
   unfoldable pub grantsAfter : ℕ → List ℕ
   grantsAfter zero = grants
   grantsAfter (suc n) =
-      withLent (wordsOf encoded n) (grantsAfter n) (1536 * closingsBefore encoded n) (resultAt n .grants)
+      withLent (wordsOf encoded n) (grantsAfter n) (grantsWords * closingsBefore encoded n) (resultAt n .grants)
 
   unfoldable pub answersAfter : List ℕ → ℕ → List ℕ
   answersAfter answers zero = answers

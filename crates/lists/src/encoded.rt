@@ -2,10 +2,12 @@
 use base::encoding;
 use base::encoding::ANSWER_WORDS;
 use base::encoding::CALL_WORDS;
-use closing::GRANTS_WORDS;
+use base::limits::GRANTS_WORDS;
 ghost use mathlib.Core.Path.{_≡_};
 ghost use Prim.Native.Nat.{ℕ, _+_, _*_, _≤_, min};
 ghost use lib.ListN.{length};
+ghost use Rattle.base.specs.Encoding.{callWords};
+ghost use Rattle.base.specs.Limits.{grantsWords};
 ghost use Rattle.base.specs.Sums.{allTo};
 ghost use Rattle.lists.specs.Encoded.{wordsOf, kindOf, knownKind, kwOf, accepted};
 
@@ -25,7 +27,7 @@ pub(super) fn accepted(calls: &[u32], room: usize) -> bool
 
 // Whether each of the first calls has a known kind.
 fn known_kinds(calls: &[u32], count: usize) -> bool
-    requires { ⌜ 6 * count ≤ length (now calls) ⌝ }
+    requires { ⌜ callWords * count ≤ length (now calls) ⌝ }
     ensures { λ r. ⌜ r ≡ allTo count (λ (n : ℕ). knownKind (kindOf (wordsOf (now (calls .entry)) n))) ⌝ }
 {
     let mut n = 0;
@@ -55,7 +57,7 @@ pub(super) fn kw_of(low: u32, high: u32) -> u64
 // Where the words of the grants buffer end that a closing is lent from a place on.
 pub(super) fn lent_end(start: usize, words: usize) -> usize
     requires { ⌜ start ≤ words ⌝ }
-    ensures { λ r. ⌜ r ≡ min (start + 1536) words ⌝ }
+    ensures { λ r. ⌜ r ≡ min (start + grantsWords) words ⌝ }
 {
     if words - start < GRANTS_WORDS {
         return words;

@@ -7,15 +7,19 @@ ghost use mathlib.Core.Bool.{true};
 ghost use Prim.Native.Nat.{_+_, _*_, _≤_, _<_, min};
 ghost use lib.ListN.{length, take, drop};
 ghost use Rattle.base.specs.Choice.{pick};
+ghost use Rattle.base.specs.Encoding.{callWords, answerWords};
+ghost use Rattle.base.specs.Limits.{grantsWords};
 ghost use Rattle.lists.specs.Calls.{result, after};
-ghost use Rattle.lists.specs.Encoded.{callCount, isClosing, numbered, callOf, callsOf, accepted, withAnswer, withLent, grantsAfter, answersAfter};
+ghost use Rattle.lists.specs.Encoded.{callCount, callsOf, accepted, grantsAfter, answersAfter};
+ghost use Rattle.lists.specs.Encoded.{isClosing, numbered, callOf, withLent, withAnswer};
 
 // Runs all calls of a list.
 pub(super) fn run_all(calls: &[u32], state: &mut [u32], grants: &mut [u32], answers: &mut [u64])
     requires { ⌜ accepted (now calls) (length (now answers)) ≡ true ⌝ }
-    ensures { λ _. ⌜ (now (state .exit) ≡ after (callsOf (now (calls .entry)) (now (grants .entry))) (now (state .entry)))
-        × (now (grants .exit) ≡ grantsAfter (now (calls .entry)) (now (state .entry)) (now (grants .entry)) (callCount (now (calls .entry))))
-        × (now (answers .exit) ≡ answersAfter (now (calls .entry)) (now (state .entry)) (now (grants .entry)) (now (answers .entry)) (callCount (now (calls .entry)))) ⌝ }
+    ensures { λ _. let words = now (calls .entry) in let s = now (state .entry) in let g = now (grants .entry) in
+        ⌜ (now (state .exit) ≡ after (callsOf words g) s)
+        × (now (grants .exit) ≡ grantsAfter words s g (callCount words))
+        × (now (answers .exit) ≡ answersAfter words s g (now (answers .entry)) (callCount words)) ⌝ }
 {
     let count = calls.len() / encoding::CALL_WORDS;
     let mut n = 0;
@@ -28,7 +32,7 @@ pub(super) fn run_all(calls: &[u32], state: &mut [u32], grants: &mut [u32], answ
     }
 }
 
-// Runs call n, given by its six words. The next closing is lent the words of the grants buffer from
+// Runs call n, given by its words. The next closing is lent the words of the grants buffer from
 // `start` on. Returns where those of the closing after this call begin.
 fn run_call(
     words: &[u32],
@@ -38,11 +42,13 @@ fn run_call(
     grants: &mut [u32],
     answers: &mut [u64],
 ) -> usize
-    requires { ⌜ (length (now words) ≡ 6) × (3 * n + 2 < length (now answers)) × (start ≤ length (now grants)) ⌝ }
-    ensures { λ r. ⌜ (r ≡ pick (isClosing (now (words .entry))) (min (start + 1536) (length (now (grants .entry)))) start)
-        × (now (state .exit) ≡ result (callOf (now (words .entry)) (take 1536 (drop start (now (grants .entry))))) (now (state .entry)) .state)
-        × (now (grants .exit) ≡ withLent (now (words .entry)) (now (grants .entry)) start (result (callOf (now (words .entry)) (take 1536 (drop start (now (grants .entry))))) (now (state .entry)) .grants))
-        × (now (answers .exit) ≡ withAnswer (now (answers .entry)) n (result (callOf (now (words .entry)) (take 1536 (drop start (now (grants .entry))))) (now (state .entry)) .answer)) ⌝ }
+    requires { ⌜ (length (now words) ≡ callWords) × (answerWords * n + 2 < length (now answers)) × (start ≤ length (now grants)) ⌝ }
+    ensures { λ r. let w = now (words .entry) in let g = now (grants .entry) in
+        let gives = result (callOf w (take grantsWords (drop start g))) (now (state .entry)) in
+        ⌜ (r ≡ pick (isClosing w) (min (start + grantsWords) (length g)) start)
+        × (now (state .exit) ≡ gives .state)
+        × (now (grants .exit) ≡ withLent w g start (gives .grants))
+        × (now (answers .exit) ≡ withAnswer (now (answers .entry)) n (gives .answer)) ⌝ }
 {
     let kind = words[0];
     if kind == encoding::CLOSE {
@@ -59,8 +65,8 @@ fn run_call(
 
 // Runs a call that is no closing.
 fn numbered_call(state: &mut [u32], kind: u32, a: u32, b: u32, c: u32, kw: u64) -> Answer
-    ensures { λ r. ⌜ (r ≡ result (numbered kind a b c kw) (now (state .entry)) .answer)
-        × (now (state .exit) ≡ result (numbered kind a b c kw) (now (state .entry)) .state) ⌝ }
+    ensures { λ r. let gives = result (numbered kind a b c kw) (now (state .entry)) in
+        ⌜ (r ≡ gives .answer) × (now (state .exit) ≡ gives .state) ⌝ }
 {
     if kind == encoding::TRADE {
         return trading::trade(state, a, b, kw);
@@ -77,9 +83,9 @@ fn numbered_call(state: &mut [u32], kind: u32, a: u32, b: u32, c: u32, kw: u64) 
     holding::lock(state, a, b, kw, c)
 }
 
-// Writes the three words of the answer to call n.
+// Writes the words of the answer to call n.
 fn store_answer(answers: &mut [u64], n: usize, answer: Answer)
-    requires { ⌜ 3 * n + 2 < length (now answers) ⌝ }
+    requires { ⌜ answerWords * n + 2 < length (now answers) ⌝ }
     ensures { λ _. ⌜ now (answers .exit) ≡ withAnswer (now (answers .entry)) n answer ⌝ }
 {
     let place = encoding::ANSWER_WORDS * n;

@@ -1,4 +1,4 @@
--- Demand 3: what holds after every list of calls on a state that a sheet opened to.
+-- The balances of the year hold after every list of calls on a state that a sheet opened to.
 use Prim.Native.Nat.{ℕ, zero, suc, _+_, _*_, _≤_, _<_}
 use mathlib.Core.Path.{_≡_, refl, ap, _∙_}
 use mathlib.Core.List.{List}
@@ -26,7 +26,7 @@ use Rattle.opening.proofs.OpenedLaws.{Opened, opened-state}
 use Rattle.opening.proofs.StartLaws.{opened-orderly}
 use Rattle.lists.specs.Calls.{Call, after}
 use Rattle.lists.specs.Year.{bought, sold, locked, closed, taken}
-use Rattle.lists.specs.Balances.{closedOn, closedTo, Balances, StillSays, Demand3}
+use Rattle.lists.specs.Balances.{closedOn, closedTo, Balances, StillSays, YearBalances}
 use Rattle.lists.proofs.ChangeLaws.{Ready, Change}
 use Rattle.lists.proofs.ListLaws.{addedByAll, change-list}
 
@@ -135,8 +135,8 @@ module _ (y : Inputs) (v : Valid y) (calls : List Call) {s : List ℕ} (o : Open
         three-quarters = within-three-quarters;
       }
 
-pub demand-3 : Demand3
-demand-3 sheet words calls e =
+pub balances-hold : YearBalances
+balances-hold sheet words calls e =
     let y : Inputs = ofSheet sheet in
     let stands = opening-stands sheet words e in
     let v : Valid y = valid-sheet sheet (stands .0) in
