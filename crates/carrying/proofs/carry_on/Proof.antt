@@ -27,11 +27,16 @@ write-sheet-requires c κs =
       draft-room (now (a .sheet)) (now (a .state)) (now (a .output)) (start .pre .0) (start .pre .1) _ _ _ _ (after-draft .draft .ensures .1) _ (after-word2 .word2 .ensures) _ (after-does-not-fit .does-not-fit .ensures) (else1 .if1 .left),
     )
 
+abbrev the : (A : Type 0) → A → A
+the A x = x
+
 returns-2 : tie.Need-returns-2
 returns-2 c =
-    let a = c .before .before .before .before .before .before .before .before .before .before .before .before .before .before .before .before .before .before .before .args in
-    draft-written (now (a .sheet)) (now (a .state)) (now (a .output)) (c .before .before .before .before .before .before .before .before .before .before .before .before .before .before .before .before .before .before .before .pre .0) (c .before .before .before .before .before .before .before .before .before .before .before .before .before .before .before .before .before .before .before .pre .1) _ _ _ _ (c .before .before .before .before .before .before .before .before .before .before .draft .ensures .1) _ (c .before .before .before .before .before .before .before .before .before .before .before .before .before .before .word2 .ensures) _ (c .before .before .before .before .before .before .before .before .does-not-fit .ensures) _ _ _ (c .before .before .before .before .before .before .before .if1 .left)
-    (λ i. c .before .before .before .before .before .before .before .before .before .before .before .before .before .before .before .before .before .before .shared-slice-known .given i .fits) (c .before .before .before .before .before .before .before .before .before .before .before .before .before .before .before .word .ensures) (c .before .before .before .write-sheet .ensures) (c .granted .ensures)
+    let a = the tie.Start (search needs) .args in let p = the tie.Start (search needs) .pre in
+    draft-written (now (a .sheet)) (now (a .state)) (now (a .output)) (p .0) (p .1) _ _ _ _ (the tie.After-draft (search needs) .draft .ensures .1)
+    _ (the tie.After-word2 (search needs) .word2 .ensures) _ (the tie.After-does-not-fit (search needs) .does-not-fit .ensures) _ _ _
+    (the tie.Else1 (search needs) .if1 .left) (λ i. the tie.After-shared-slice-known (search needs) .shared-slice-known .given i .fits)
+    (the tie.After-word (search needs) .word .ensures) (the tie.After-write-sheet (search needs) .write-sheet .ensures) (c .granted .ensures)
 
 pub carry-on-spec : {M : Type 1} → statement M
 carry-on-spec =

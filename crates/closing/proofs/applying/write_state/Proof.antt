@@ -5,20 +5,22 @@ use Rattle.closing.proofs.ClosedLaws.{state-is}
 use Rattle.closing.proofs.applying.write_state.Statement.{statement}
 use Rattle.closing.proofs.applying.write_state.Tie as tie
 
+abbrev the : (A : Type 0) → A → A
+the A x = x
+
 returns : tie.Need-returns
 returns c =
-    let s = c .before .before .before .before .before .before .before .before .before .before .before .before .before .before .before .before .before .before .before .before .before .before .before .before .before .before .before .before .before .before in
-    let a = s .args in
-    let o = refusal-none _ (s .pre .0 .fit) in
-    state-is (now (a .state)) (now (a .unassigned)) (now (a .unplaced)) (now (a .table)) _ _ _ _ _ _ _ _ (o .0) (o .1) (s .pre .1) (s .pre .2)
-    (c .before .before .before .before .before .before .before .before .before .before .before .before .before .before .before .before .before .before .before .before .before .before .before .before .intertie-count .ensures)
-    (c .before .before .before .before .before .before .before .before .before .before .before .before .before .before .before .before .before .before .before .before .before .before .holder-count .ensures)
-    (c .before .before .before .before .before .before .before .before .before .before .before .before .before .before .before .before .before .before .before .before .stage .ensures)
-    (c .before .before .before .before .before .before .before .before .before .before .before .before .before .before .before .before .before .before .store-row .ensures)
-    (c .before .before .before .before .before .before .before .before .before .before .before .before .before .before .store-row2 .ensures)
-    (c .before .before .before .before .before .before .before .before .before .before .raise-pairs .ensures)
-    (c .before .before .before .before .before .before .clear-pairs .ensures)
-    (c .before .before .store .ensures)
+    let a = the tie.Start (search needs) .args in
+    let o = refusal-none _ (the tie.Start (search needs) .pre .0 .fit) in
+    state-is (now (a .state)) (now (a .unassigned)) (now (a .unplaced)) (now (a .table)) _ _ _ _ _ _ _ _ (o .0) (o .1) (the tie.Start (search needs) .pre .1) (the tie.Start (search needs) .pre .2)
+    (the tie.After-intertie-count (search needs) .intertie-count .ensures)
+    (the tie.After-holder-count (search needs) .holder-count .ensures)
+    (the tie.After-stage (search needs) .stage .ensures)
+    (the tie.After-store-row (search needs) .store-row .ensures)
+    (the tie.After-store-row2 (search needs) .store-row2 .ensures)
+    (the tie.After-raise-pairs (search needs) .raise-pairs .ensures)
+    (the tie.After-clear-pairs (search needs) .clear-pairs .ensures)
+    (the tie.After-store (search needs) .store .ensures)
 
 pub write-state-spec : {M : Type 1} → statement M
 write-state-spec =

@@ -6,6 +6,9 @@ use Rattle.closing.proofs.SharingLaws.{pending-shared}
 use Rattle.closing.proofs.sharing.share_out_pending.Statement.{statement}
 use Rattle.closing.proofs.sharing.share_out_pending.Tie as tie
 
+abbrev the : (A : Type 0) → A → A
+the A x = x
+
 read-row-requires : tie.Need-read-row-requires
 read-row-requires c κs =
     let start : tie.Start = search needs in let after-intertie-count : tie.After-intertie-count = search needs in
@@ -24,12 +27,12 @@ read-pairs-requires c κs =
 
 returns : tie.Need-returns
 returns c =
-    let a = c .before .before .before .before .before .before .before .before .before .before .before .before .before .before .before .before .before .before .before .before .args in
-    let p = c .before .before .before .before .before .before .before .before .before .before .before .before .before .before .before .before .before .before .before .before .pre in
+    let a = the tie.Start (search needs) .args in
+    let p = the tie.Start (search needs) .pre in
     let o = refusal-none _ (p .0 .fit) in
-    pending-shared (now (a .state)) (o .1) (p .0 .stage-most) _ _ _ _ _ (now (a .table)) _ _ (c .before .before .before .before .before .before .before .before .before .before .before .before .before .before .before .before .before .intertie-count .ensures) (c .before .before .before .before .before .before .before .before .before .before .before .before .before .before .before .before .holder-count .ensures)
-    (c .before .before .before .before .before .before .before .before .before .before .before .before .before .before .read-row .ensures) (c .before .before .before .before .before .before .before .before .before .before .before .read-pairs .ensures) (omega (arith, c .before .before .before .before .before .before .before .before .before .before .before .read-pairs .kept .1 .1 .1 .1 .0, length-zeros 1536)) (c .before .before .before .before .before .before .before .before .weigh .ensures) (p .1)
-    (c .before .before .share-out-each .ensures .0) (c .before .before .share-out-each .ensures .1)
+    pending-shared (now (a .state)) (o .1) (p .0 .stage-most) _ _ _ _ _ (now (a .table)) _ _ (the tie.After-intertie-count (search needs) .intertie-count .ensures) (the tie.After-holder-count (search needs) .holder-count .ensures)
+    (the tie.After-read-row (search needs) .read-row .ensures) (the tie.After-read-pairs (search needs) .read-pairs .ensures) (omega (arith, the tie.After-read-pairs (search needs) .read-pairs .kept .1 .1 .1 .1 .0, length-zeros 1536)) (the tie.After-weigh (search needs) .weigh .ensures) (p .1)
+    (the tie.After-share-out-each (search needs) .share-out-each .ensures .0) (the tie.After-share-out-each (search needs) .share-out-each .ensures .1)
 
 pub share-out-pending-spec : {M : Type 1} → statement M
 share-out-pending-spec =
