@@ -25,7 +25,7 @@ use Rattle.state_rows.proofs.RowLaws.{length-fillRow, at-fillRow-apart, length-
 use Rattle.call.specs.Outcome.{orElse, whenever}
 use Rattle.call.proofs.LadderLaws.{none-first, none-second, not-whenever, not-first}
 use Rattle.closing.specs.Close.{closeRefusal, closeGrant, closeKw, closePasses, grantedTo, grantedOn, closeState, closeGrants, Closed, close}
-use Rattle.closing.specs.Work.{Closable, Granted, Written}
+use Rattle.closing.specs.Workers.Work.{Closable, Granted, Written}
 use Rattle.closing.proofs.TableLaws.{zeros, length-zeros, in-holders, some-interties}
 use Rattle.closing.proofs.StoreLaws.{stored-row, raised-pairs, cleared-pairs}
 

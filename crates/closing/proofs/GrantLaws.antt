@@ -13,7 +13,7 @@ use Rattle.state.specs.Layout.{interties, holders, unassignedOf, unplacedOf, pe
 use Rattle.state.proofs.OrderlyLaws.{Orderly}
 use Rattle.closing.specs.Weight.{weightOf}
 use Rattle.closing.specs.Close.{sharesOut, closeGrant, closeKw, grantedTo, grantedOn}
-use Rattle.closing.specs.Work.{Granted}
+use Rattle.closing.specs.Workers.Work.{Granted}
 use Rattle.closing.proofs.UniformLaws.{shared-kept}
 
 module _ (s : List ℕ) where

@@ -20,7 +20,7 @@ use Rattle.state.specs.Layout.{place, interties, holders, stageOf, unassignedOf
 use Rattle.state.proofs.OrderlyLaws.{Orderly}
 use Rattle.closing.specs.Weight.{weightOf}
 use Rattle.closing.specs.Close.{closeGrant, closeKw, closePasses}
-use Rattle.closing.specs.Work.{fillFrom, Granted}
+use Rattle.closing.specs.Workers.Work.{fillFrom, Granted}
 use Rattle.closing.proofs.UniformLaws.{uniform-grant, uniform-kw, uniform-passes}
 use Rattle.closing.proofs.TableLaws.{zeros, length-zeros, at-fillFrom, length-fillFrom}
 

@@ -13,7 +13,7 @@ use Rattle.base.specs.Words.{at, fill}
 use Rattle.base.proofs.SumLaws.{below-suc, sumTo-zero, sumTo-more, sumTo-mono}
 use Rattle.base.proofs.WordLaws.{fill-suc, at-fill, length-fill}
 use Rattle.intertie_shares.specs.Pairs.{atPair}
-use Rattle.closing.specs.Work.{fillFrom}
+use Rattle.closing.specs.Workers.Work.{fillFrom}
 
 -- a local array before it is written
 abbrev pub zeros : ℕ → List ℕ

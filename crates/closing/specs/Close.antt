@@ -1,4 +1,5 @@
--- Close (stages 1 to 3): in 2 and 3, each intertie's unassigned kW is shared out over pending. Grants go from unassigned to placed and leave unplaced; pending becomes 0; stage rises by one.
+-- Close (stages 1 to 3): in 2 and 3, each intertie's unassigned kW is shared out over pending. Grants go from unassigned to placed
+-- and leave unplaced; pending becomes 0; stage rises by one.
 use Prim.Native.Nat.{ℕ, _+_, _-_, _*_, _/_, _%_}
 use mathlib.Core.List.{List}
 use mathlib.Core.Bool.{Bool, not, _&&_, _||_}
@@ -9,6 +10,9 @@ use Rattle.base.specs.Sums.{sumTo}
 use Rattle.base.specs.Words.{fill}
 use Rattle.base.specs.Answers.{refused, granted}
 use Rattle.base.specs.declared.Answer.{Answer}
+use Rattle.base.specs.Limits.{grantsWords}
+use Rattle.base.specs.Refusals.{roomRefused, stageRefused}
+use Rattle.base.specs.Stages.{tradingStage, firstRequestsStage, secondRequestsStage}
 use Rattle.intertie_shares.specs.Rule.{grantOn, kwOver, passesOver}
 use Rattle.state.specs.Layout.{interties, holders, stageAt, stageOf, unassignedOf, unplacedOf, placedOf, pendingOf}
 use Rattle.state.specs.Orderly.{stateRefusal}
@@ -20,14 +24,14 @@ use Rattle.closing.specs.Weight.{weightOf}
 -- the lowest number that applies, 0 if none: 5 for short grants or a short state, 6, 7
 unfoldable pub closeRefusal : List ℕ → List ℕ → ℕ
 closeRefusal s grants =
-    orElse (whenever (ltb (length grants) 1536) 5)
+    orElse (whenever (ltb (length grants) grantsWords) roomRefused)
     (orElse (stateRefusal s)
-    (whenever (not (leb 1 (stageOf s) && leb (stageOf s) 3)) 7))
+    (whenever (not (leb tradingStage (stageOf s) && leb (stageOf s) secondRequestsStage)) stageRefused))
 
 module _ (s : List ℕ) where
   -- stages 2 and 3
   abbrev pub sharesOut : Bool
-  sharesOut = eqb (stageOf s) 2 || eqb (stageOf s) 3
+  sharesOut = eqb (stageOf s) firstRequestsStage || eqb (stageOf s) secondRequestsStage
 
   -- the kW that this closing grants holder h on intertie i
   unfoldable pub closeGrant : ℕ → ℕ → ℕ
@@ -61,6 +65,7 @@ module _ (s : List ℕ) where
   unfoldable pub closeGrants : List ℕ → List ℕ
   closeGrants grants = fill (holders s * interties s) (λ p. closeGrant (p / interties s) (p % interties s)) grants
 
+-- what a closing gives: its answer, and the state and the grants buffer after it
 pub record Closed : Type 0 where
   pub answer : Answer
   pub state : List ℕ

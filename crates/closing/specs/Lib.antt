@@ -1,3 +1,3 @@
 pub mod Weight
 pub mod Close
-pub mod Work
+pub mod Workers

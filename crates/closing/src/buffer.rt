@@ -1,18 +1,18 @@
 // The grants buffer: word h·I + i has the kW of holder h on intertie i.
-use super::tables;
 use state::layout::ROW_WORDS;
 ghost use mathlib.Core.Path.{_≡_};
 ghost use Prim.Native.Nat.{ℕ, _+_, _*_, _/_, _%_, _≤_, _<_};
 ghost use lib.ListN.{length};
 ghost use Rattle.base.specs.Words.{at, fill};
+ghost use Rattle.base.specs.Limits.{mostHolders, mostInterties, mostPairs, mostKw, grantsWords};
 ghost use Rattle.intertie_shares.specs.Pairs.{atPair};
 ghost use Rattle.closing.specs.Close.{closeGrants};
-ghost use Rattle.closing.specs.Work.{fillFrom, Closable, Granted};
+ghost use Rattle.closing.specs.Workers.Work.{fillFrom, Closable, Granted};
 
 // Copies numbers of a table, from one of them on, over words of the buffer, from one of them on.
 fn copy_row(table: &[u64], from: usize, count: usize, grants: &mut [u32], to: usize)
     requires { ⌜ (from + count ≤ length (now table)) × (to + count ≤ length (now grants))
-        × ((c : ℕ) → c < count → at (now table) (from + c) ≤ 20000000) ⌝ }
+        × ((c : ℕ) → c < count → at (now table) (from + c) ≤ mostKw) ⌝ }
     ensures { λ _. ⌜ now (grants .exit) ≡ fillFrom to count (λ (c : ℕ). at (now (table .entry)) (from + c)) (now (grants .entry)) ⌝ }
 {
     let mut c = 0;
@@ -24,10 +24,10 @@ fn copy_row(table: &[u64], from: usize, count: usize, grants: &mut [u32], to: us
 
 // Copies the first numbers of each holder's row, one row after the other.
 fn copy_rows(table: &[u64], holders: usize, interties: usize, grants: &mut [u32])
-    requires { ⌜ (holders ≤ 32) × (interties ≤ 48) × (1536 ≤ length (now table)) × (1536 ≤ length (now grants))
-        × ((h i : ℕ) → h < holders → i < interties → atPair (now table) h i ≤ 20000000) ⌝ }
-    ensures { λ _. ⌜ now (grants .exit) ≡
-        fill (holders * interties) (λ (p : ℕ). atPair (now (table .entry)) (p / interties) (p % interties)) (now (grants .entry)) ⌝ }
+    requires { ⌜ (holders ≤ mostHolders) × (interties ≤ mostInterties) × (mostPairs ≤ length (now table)) × (grantsWords ≤ length (now grants))
+        × ((h i : ℕ) → h < holders → i < interties → atPair (now table) h i ≤ mostKw) ⌝ }
+    ensures { λ _. ⌜ now (grants .exit)
+        ≡ fill (holders * interties) (λ (p : ℕ). atPair (now (table .entry)) (p / interties) (p % interties)) (now (grants .entry)) ⌝ }
 {
     let mut next = 0;
     let mut holder = 0;
@@ -40,10 +40,10 @@ fn copy_rows(table: &[u64], holders: usize, interties: usize, grants: &mut [u32]
 
 // Writes this closing's kW of every pair.
 pub(super) fn write_grants(state: &[u32], table: &[u64], grants: &mut [u32])
-    requires { ⌜ Closable (now state) × Granted (now state) (now table) × (1536 ≤ length (now grants)) ⌝ }
+    requires { ⌜ Closable (now state) × Granted (now state) (now table) × (grantsWords ≤ length (now grants)) ⌝ }
     ensures { λ _. ⌜ now (grants .exit) ≡ closeGrants (now (state .entry)) (now (grants .entry)) ⌝ }
 {
-    let interties = tables::intertie_count(state);
-    let holders = tables::holder_count(state);
+    let interties = state::intertie_count(state) as usize;
+    let holders = state::holder_count(state) as usize;
     copy_rows(table, holders, interties, grants);
 }

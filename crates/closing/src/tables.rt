@@ -1,6 +1,5 @@
 // Tables of the pairs, with a row of 48 numbers for each holder: words of the state are read into their
 // rows, and their rows are taken off others.
-use state::layout;
 use state::layout::ROW_WORDS;
 ghost use mathlib.Core.Path.{_≡_};
 ghost use Prim.Native.Nat.{ℕ, _+_, _-_, _*_, _≤_, _<_};
@@ -8,24 +7,13 @@ ghost use lib.ListN.{length};
 ghost use Rattle.base.specs.Sums.{sumTo};
 ghost use Rattle.base.specs.Words.{at, fill};
 ghost use Rattle.intertie_shares.specs.Pairs.{atPair};
-ghost use Rattle.state.specs.Layout.{place, interties, holders};
-ghost use Rattle.closing.specs.Work.{fillFrom};
-
-pub(super) fn intertie_count(state: &[u32]) -> usize
-    ensures { λ r. ⌜ r ≡ interties (now (state .entry)) ⌝ }
-{
-    state::word(state, layout::SIZES, layout::INTERTIES) as usize
-}
-
-pub(super) fn holder_count(state: &[u32]) -> usize
-    ensures { λ r. ⌜ r ≡ holders (now (state .entry)) ⌝ }
-{
-    state::word(state, layout::SIZES, layout::HOLDERS) as usize
-}
+ghost use Rattle.base.specs.Limits.{stateWords, mostHolders, mostInterties, mostPairs};
+ghost use Rattle.state.specs.Layout.{rowWords, place, lastRow, wholeRows};
+ghost use Rattle.closing.specs.Workers.Work.{fillFrom};
 
 // Reads the first words of a row of the state into a table, from one of its numbers on.
 pub(super) fn read_row(state: &[u32], row: usize, count: usize, table: &mut [u64], to: usize)
-    requires { ⌜ (16000 ≤ length (now state)) × (row < 333) × (count ≤ 48) × (to + count ≤ length (now table)) ⌝ }
+    requires { ⌜ (stateWords ≤ length (now state)) × (row < wholeRows) × (count ≤ rowWords) × (to + count ≤ length (now table)) ⌝ }
     ensures { λ _. ⌜ now (table .exit) ≡ fillFrom to count (λ (c : ℕ). at (now (state .entry)) (place row c)) (now (table .entry)) ⌝ }
 {
     let first = ROW_WORDS * row;
@@ -44,8 +32,10 @@ pub(super) fn read_pairs(
     interties: usize,
     table: &mut [u64],
 )
-    requires { ⌜ (16000 ≤ length (now state)) × (field ≤ 300) × (holders ≤ 32) × (interties ≤ 48) × (1536 ≤ length (now table)) ⌝ }
-    ensures { λ _. ⌜ ((h i : ℕ) → h < holders → i < interties → atPair (now (table .exit)) h i ≡ at (now (state .entry)) (place (field + h) i)) ⌝ }
+    requires { ⌜ (stateWords ≤ length (now state)) × (field ≤ lastRow) × (holders ≤ mostHolders) × (interties ≤ mostInterties)
+        × (mostPairs ≤ length (now table)) ⌝ }
+    ensures { λ _. ⌜ ((h i : ℕ) → h < holders → i < interties →
+        atPair (now (table .exit)) h i ≡ at (now (state .entry)) (place (field + h) i)) ⌝ }
 {
     let mut holder = 0;
     while holder < holders {
@@ -69,7 +59,7 @@ fn take_off(table: &[u64], from: usize, count: usize, row: &mut [u64])
 
 // Takes what the holders have in a table off a row of the interties, which has as much.
 pub(super) fn take_off_holders(table: &[u64], holders: usize, interties: usize, row: &mut [u64])
-    requires { ⌜ (holders ≤ 32) × (interties ≤ 48) × (1536 ≤ length (now table)) × (interties ≤ length (now row))
+    requires { ⌜ (holders ≤ mostHolders) × (interties ≤ mostInterties) × (mostPairs ≤ length (now table)) × (interties ≤ length (now row))
         × ((i : ℕ) → i < interties → sumTo holders (λ (h : ℕ). atPair (now table) h i) ≤ at (now row) i) ⌝ }
     ensures { λ _. ⌜ ((i : ℕ) → i < interties →
         at (now (row .exit)) i ≡ at (now (row .entry)) i - sumTo holders (λ (h : ℕ). atPair (now (table .entry)) h i)) ⌝ }

@@ -7,13 +7,14 @@ ghost use lib.Count.{ones};
 ghost use lib.ListN.{length};
 ghost use Rattle.base.specs.Sums.{sumTo};
 ghost use Rattle.base.specs.Words.{fill};
+ghost use Rattle.base.specs.Limits.{stateWords, mostHolders};
 ghost use Rattle.state.specs.Layout.{holders, loadShareOf};
 ghost use Rattle.closing.specs.Weight.{sellerBit, averageLoad, weightOf};
-ghost use Rattle.closing.specs.Work.{Closable};
+ghost use Rattle.closing.specs.Workers.Work.{Closable};
 
 // A holder's load share if it is a seller of the mask, else 0.
 fn load_if_seller(sellers: u32, holder: u32, load: u32) -> u64
-    requires { ⌜ holder < 32 ⌝ }
+    requires { ⌜ holder < mostHolders ⌝ }
     ensures { λ r. ⌜ (r ≡ sellerBit sellers holder * load) × (r ≤ load) ⌝ }
 {
     (((sellers >> holder) % 2) as u64) * (load as u64)
@@ -21,7 +22,7 @@ fn load_if_seller(sellers: u32, holder: u32, load: u32) -> u64
 
 // The load shares of the sellers of a mask together.
 fn sellers_load(state: &[u32], sellers: u32, holders: u32) -> u64
-    requires { ⌜ (16000 ≤ length (now state)) × (holders ≤ 32) ⌝ }
+    requires { ⌜ (stateWords ≤ length (now state)) × (holders ≤ mostHolders) ⌝ }
     ensures { λ r. ⌜ r ≡ sumTo holders (λ (j : ℕ). sellerBit sellers j * loadShareOf (now (state .entry)) j) ⌝ }
 {
     let first = ROW_WORDS * (layout::LOAD_SHARE as usize);
@@ -46,7 +47,7 @@ fn average_load(state: &[u32], holder: u32) -> u64
     requires { ⌜ Closable (now state) × (holder < holders (now state)) ⌝ }
     ensures { λ r. ⌜ r ≡ averageLoad (now (state .entry)) holder ⌝ }
 {
-    let holders = state::word(state, layout::SIZES, layout::HOLDERS);
+    let holders = state::holder_count(state);
     let sellers = state::word(state, layout::SELLERS, holder);
     let count = seller_count(sellers);
     if count == 0 {
@@ -69,10 +70,10 @@ fn weight(state: &[u32], holder: u32) -> u64
 
 // Writes each holder's weight.
 pub(super) fn weigh(state: &[u32], weights: &mut [u64])
-    requires { ⌜ Closable (now state) × (32 ≤ length (now weights)) ⌝ }
-    ensures { λ _. ⌜ now (weights .exit) ≡ fill (holders (now (state .entry))) (weightOf (now (state .entry))) (now (weights .entry)) ⌝ }
+    requires { ⌜ Closable (now state) × (mostHolders ≤ length (now weights)) ⌝ }
+    ensures { λ _. let s = now (state .entry) in ⌜ now (weights .exit) ≡ fill (holders s) (weightOf s) (now (weights .entry)) ⌝ }
 {
-    let holders = state::word(state, layout::SIZES, layout::HOLDERS);
+    let holders = state::holder_count(state);
     let mut holder = 0;
     while holder < holders {
         weights[holder as usize] = weight(state, holder);

@@ -12,12 +12,11 @@ use borrow.Author.Tests.{lt-ltb, ltb-true}
 use Rattle.base.specs.Sums.{sumTo, allTo}
 use Rattle.base.specs.Words.{at, fill}
 use Rattle.base.proofs.ChoiceLaws.{and-both, same-test, and-left, and-right}
-use Rattle.base.proofs.SumLaws.{sumTo-add, sumTo-bound, sumTo-term, allTo-same, sumTo-more}
+use Rattle.base.proofs.SumLaws.{sumTo-add, sumTo-bound, sumTo-term, allTo-same, sumTo-more, each-le, each-eq, each-pair, all-pairs, allTo-both, allTo-next, all-more}
 use Rattle.base.proofs.WordLaws.{at-fill, length-fill}
 use Rattle.state.specs.Layout.{interties, holders, limitOf, existingOf, preRaOf, newUseOf, placedOf, takenOf}
 use Rattle.state.specs.Orderly.{limitsInRange, balanced, intertieKw}
-use Rattle.orderly.specs.Check.{pairKw, pairFits, twoKw, twoFit, Cleared, Added, limitMet}
-use Rattle.state.proofs.BaseMore.{each-le, each-eq, each-pair, all-pairs, allTo-both, allTo-next, tests-turn}
+use Rattle.orderly.specs.Workers.Check.{pairKw, pairFits, twoKw, twoFit, Cleared, Added, limitMet}
 
 -- the kW of a pair, its words added in 32 bits
 pub pair-kw-wraps :
@@ -97,7 +96,7 @@ pair-bits-tell s h i {e} {p} {n} {l} {t} {kw} a b c d f w =
 
 -- a loop that puts bits together: a turn
 pub bits-turn : (n : ℕ) (p : ℕ → Bool) (bits b : ℕ) → ltb bits (2 ^ 25) ≡ allTo n p → ltb b (2 ^ 25) ≡ p n → ltb (bitOr bits b) (2 ^ 25) ≡ allTo (n + 1) p
-bits-turn n p bits b e t = or-below 25 bits b ∙ tests-turn n p {a = ltb bits (2 ^ 25)} {b = ltb b (2 ^ 25)} e t
+bits-turn n p bits b e t = or-below 25 bits b ∙ all-more n p (ltb bits (2 ^ 25)) (ltb b (2 ^ 25)) e t
 
 -- the kW of two pairs, in 32 bits
 pub two-kw-wraps : (s : List ℕ) (h i : ℕ) {a b r : ℕ} → a ≡ pairKw s h i % 2 ^ 32 → b ≡ pairKw s (h + 1) i % 2 ^ 32 → r ≡ (a + b) % 2 ^ 32 → r ≡ twoKw s h i % 2 ^ 32

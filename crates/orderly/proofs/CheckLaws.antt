@@ -11,13 +11,13 @@ use lib.Pow.{ones-split, ones-lt, le-ones, lt-of-le-ones, high}
 use borrow.Author.Tests.{lt-ltb, le-leb, leb-true, ltb-true}
 use Rattle.base.specs.Choice.{pick}
 use Rattle.base.specs.Sums.{sumTo, allTo}
-use Rattle.base.proofs.ChoiceLaws.{and-both, same-test, and-left, and-right}
-use Rattle.base.proofs.SumLaws.{allTo-each, allTo-all, allTo-same}
+use Rattle.base.proofs.ChoiceLaws.{and-both, same-test, and-left, and-right, and-left-comm, four}
+use Rattle.base.proofs.SumLaws.{allTo-each, allTo-all, allTo-same, allTo-both, allTo-pairs-both, all-more}
 use Rattle.base.specs.Limits.{stateWords}
+use Rattle.base.proofs.TestLaws.{fault, or-none}
 use Rattle.state.specs.Layout.{interties, holders, loadShareOf, step5ShareOf, step7TotalOf, reservedOf, unplacedOf, sellersOf, takingsOf, placedOf, lockedOf, termOf, pendingOf, ofHolder, stageOf}
 use Rattle.state.specs.Orderly.{orderly, sizesInRange, stageInRange, limitsInRange, loadSharesInRange, balanced, lockedWithinPlaced, pendingWithinUnplaced, kwInRange, takingsInRange, sellersAreHolders, termsFit, termFits, noRequests}
-use Rattle.orderly.specs.Check.{Sized, fieldsInRange, rowsInOrder, lockFits, pairLockFits, unlocked, mostPending}
-use Rattle.state.proofs.BaseMore.{fault, and-left-comm, allTo-both, allTo-pairs-both, four, tests-turn, or-none}
+use Rattle.orderly.specs.Workers.Check.{Sized, fieldsInRange, rowsInOrder, lockFits, pairLockFits, unlocked, mostPending}
 
 -- a term at most 30, and 0 exactly where nothing is locked
 term-test : (locked term : ℕ) → (leb term 30 && Bool·beq (eqb locked 0) (eqb term 0)) ≡ termFits locked term
@@ -75,7 +75,7 @@ unlocked-turn s h i bits locked term e l t =
     or-none (bitOr bits locked) term
     ∙ ap (λ (b : Bool). b && leb term 0) (or-none bits locked)
     ∙ and-assoc (eqb bits 0) (leb locked 0) (leb term 0)
-    ∙ tests-turn i (λ j. unlocked s h j) {a = eqb bits 0} {b = leb locked 0 && leb term 0} e (cc)
+    ∙ all-more i (λ j. unlocked s h j) (eqb bits 0) (leb locked 0 && leb term 0) e (cc)
 
 -- a holder without a lock has its locks in order
 unlocked-fits : (placed locked term : ℕ) → locked ≤ 0 → term ≤ 0 → lockFits placed locked term ≡ true

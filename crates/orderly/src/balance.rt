@@ -1,10 +1,9 @@
 // The limits, and the balance on each intertie, added in 32 bits. A limit is below 2^25, and so are
 // the kW of each pair that stand against it; where they are, their sums don't pass 32 bits.
-use super::rows::holder_count;
-use super::rows::intertie_count;
 use super::rows::row_within;
 use super::rows::row_word;
 use base::limits;
+use base::limits::MOST_INTERTIES;
 use state::layout;
 use std::num::wrapping_add_u32;
 ghost use mathlib.Core.Path.{_≡_};
@@ -14,9 +13,10 @@ ghost use lib.Dec.{ltb};
 ghost use lib.ListN.{length};
 ghost use Rattle.base.specs.Sums.{allTo};
 ghost use Rattle.base.specs.Words.{at, fill};
+ghost use Rattle.base.specs.Limits.{stateWords, mostHolders, mostInterties};
 ghost use Rattle.state.specs.Layout.{interties, holders};
 ghost use Rattle.state.specs.Orderly.{limitsInRange, balanced};
-ghost use Rattle.orderly.specs.Check.{Sized, pairKw, pairFits, twoKw, twoFit, Cleared, Added, limitMet};
+ghost use Rattle.orderly.specs.Workers.Check.{Sized, tooManyKw, pairKw, pairFits, twoKw, twoFit, Cleared, Added, limitMet};
 
 const MOST_KW: u32 = limits::MOST_KW as u32;
 
@@ -25,7 +25,7 @@ const TOO_MANY_KW: u32 = 33_554_432;
 
 // The kW of a pair that stand against its intertie's limit, in 32 bits.
 fn pair_kw(state: &[u32], holder: u32, intertie: usize) -> u32
-    requires { ⌜ (16000 ≤ length (now state)) × (holder < 32) × (intertie < 48) ⌝ }
+    requires { ⌜ (stateWords ≤ length (now state)) × (holder < mostHolders) × (intertie < mostInterties) ⌝ }
     ensures { λ r. ⌜ r ≡ pairKw (now (state .entry)) holder intertie % 2 ^ 32 ⌝ }
 {
     let existing = row_word(state, layout::EXISTING + holder, intertie);
@@ -39,8 +39,8 @@ fn pair_kw(state: &[u32], holder: u32, intertie: usize) -> u32
 
 // The bits of the words that make up a pair's kW, and of the kW.
 fn pair_bits(state: &[u32], holder: u32, intertie: usize) -> u32
-    requires { ⌜ (16000 ≤ length (now state)) × (holder < 32) × (intertie < 48) ⌝ }
-    ensures { λ r. ⌜ ltb r (2 ^ 25) ≡ pairFits (now (state .entry)) holder intertie ⌝ }
+    requires { ⌜ (stateWords ≤ length (now state)) × (holder < mostHolders) × (intertie < mostInterties) ⌝ }
+    ensures { λ r. ⌜ ltb r (tooManyKw) ≡ pairFits (now (state .entry)) holder intertie ⌝ }
 {
     let existing = row_word(state, layout::EXISTING + holder, intertie);
     let pre_ra = row_word(state, layout::PRE_RA + holder, intertie);
@@ -51,14 +51,14 @@ fn pair_bits(state: &[u32], holder: u32, intertie: usize) -> u32
 }
 
 // Adds the kW of a holder to the sums of the interties. The result has the bits of its pairs.
-fn add_holder(state: &[u32], holder: u32, sums: &mut [u32; 48]) -> u32
-    requires { ⌜ Sized (now state) × (holder < 32) ⌝ }
-    ensures { λ r. ⌜ (ltb r (2 ^ 25) ≡ allTo (interties (now (state .entry))) (λ (i : ℕ). pairFits (now (state .entry)) holder i))
+fn add_holder(state: &[u32], holder: u32, sums: &mut [u32; MOST_INTERTIES]) -> u32
+    requires { ⌜ Sized (now state) × (holder < mostHolders) ⌝ }
+    ensures { λ r. ⌜ (ltb r (tooManyKw) ≡ allTo (interties (now (state .entry))) (λ (i : ℕ). pairFits (now (state .entry)) holder i))
         × (now (sums .exit) ≡ fill (interties (now (state .entry)))
         (λ (i : ℕ). (at (now (sums .entry)) i + pairKw (now (state .entry)) holder i % 2 ^ 32) % 2 ^ 32) (now (sums .entry))) ⌝ }
 {
     let mut bits: u32 = 0;
-    for intertie in 0..intertie_count(state) {
+    for intertie in 0..state::intertie_count(state) as usize {
         bits = bits | pair_bits(state, holder, intertie);
         sums[intertie] = wrapping_add_u32(sums[intertie], pair_kw(state, holder, intertie));
     }
@@ -67,7 +67,7 @@ fn add_holder(state: &[u32], holder: u32, sums: &mut [u32; 48]) -> u32
 
 // The kW of the pairs of a holder and the next on an intertie, in 32 bits.
 fn two_kw(state: &[u32], holder: u32, intertie: usize) -> u32
-    requires { ⌜ (16000 ≤ length (now state)) × (holder < 31) × (intertie < 48) ⌝ }
+    requires { ⌜ (stateWords ≤ length (now state)) × (holder + 1 < mostHolders) × (intertie < mostInterties) ⌝ }
     ensures { λ r. ⌜ r ≡ twoKw (now (state .entry)) holder intertie % 2 ^ 32 ⌝ }
 {
     wrapping_add_u32(
@@ -78,21 +78,21 @@ fn two_kw(state: &[u32], holder: u32, intertie: usize) -> u32
 
 // The bits of these pairs.
 fn two_bits(state: &[u32], holder: u32, intertie: usize) -> u32
-    requires { ⌜ (16000 ≤ length (now state)) × (holder < 31) × (intertie < 48) ⌝ }
-    ensures { λ r. ⌜ ltb r (2 ^ 25) ≡ twoFit (now (state .entry)) holder intertie ⌝ }
+    requires { ⌜ (stateWords ≤ length (now state)) × (holder + 1 < mostHolders) × (intertie < mostInterties) ⌝ }
+    ensures { λ r. ⌜ ltb r (tooManyKw) ≡ twoFit (now (state .entry)) holder intertie ⌝ }
 {
     pair_bits(state, holder, intertie) | pair_bits(state, holder + 1, intertie)
 }
 
 // Adds the kW of a holder and the next, which is quicker than one after the other.
-fn add_two(state: &[u32], holder: u32, sums: &mut [u32; 48]) -> u32
-    requires { ⌜ Sized (now state) × (holder < 31) ⌝ }
-    ensures { λ r. ⌜ (ltb r (2 ^ 25) ≡ allTo (interties (now (state .entry))) (λ (i : ℕ). twoFit (now (state .entry)) holder i))
+fn add_two(state: &[u32], holder: u32, sums: &mut [u32; MOST_INTERTIES]) -> u32
+    requires { ⌜ Sized (now state) × (holder + 1 < mostHolders) ⌝ }
+    ensures { λ r. ⌜ (ltb r (tooManyKw) ≡ allTo (interties (now (state .entry))) (λ (i : ℕ). twoFit (now (state .entry)) holder i))
         × (now (sums .exit) ≡ fill (interties (now (state .entry)))
         (λ (i : ℕ). (at (now (sums .entry)) i + twoKw (now (state .entry)) holder i % 2 ^ 32) % 2 ^ 32) (now (sums .entry))) ⌝ }
 {
     let mut bits: u32 = 0;
-    for intertie in 0..intertie_count(state) {
+    for intertie in 0..state::intertie_count(state) as usize {
         bits = bits | two_bits(state, holder, intertie);
         sums[intertie] = wrapping_add_u32(sums[intertie], two_kw(state, holder, intertie));
     }
@@ -101,23 +101,23 @@ fn add_two(state: &[u32], holder: u32, sums: &mut [u32; 48]) -> u32
 
 // The kW of each intertie, two holders after two, added to sums of 0. The result has the bits of
 // their pairs.
-fn add_by_two(state: &[u32], sums: &mut [u32; 48]) -> u32
+fn add_by_two(state: &[u32], sums: &mut [u32; MOST_INTERTIES]) -> u32
     requires { ⌜ Sized (now state) × Cleared (interties (now state)) (now sums) ⌝ }
-    ensures { λ r. ⌜ Added (now (state .entry)) (2 * (holders (now (state .entry)) / 2)) r (now (sums .exit)) ⌝ }
+    ensures { λ r. let s = now (state .entry) in ⌜ Added s (2 * (holders s / 2)) r (now (sums .exit)) ⌝ }
 {
     let mut bits: u32 = 0;
-    for two in 0..holder_count(state) / 2 {
+    for two in 0..state::holder_count(state) / 2 {
         bits = bits | add_two(state, 2 * two, sums);
     }
     bits
 }
 
 // The same, of all holders.
-fn add_holders(state: &[u32], sums: &mut [u32; 48]) -> u32
+fn add_holders(state: &[u32], sums: &mut [u32; MOST_INTERTIES]) -> u32
     requires { ⌜ Sized (now state) × Cleared (interties (now state)) (now sums) ⌝ }
-    ensures { λ r. ⌜ Added (now (state .entry)) (holders (now (state .entry))) r (now (sums .exit)) ⌝ }
+    ensures { λ r. let s = now (state .entry) in ⌜ Added s (holders s) r (now (sums .exit)) ⌝ }
 {
-    let holders = holder_count(state);
+    let holders = state::holder_count(state);
     let bits = add_by_two(state, sums);
     if holders % 2 == 0 {
         return bits;
@@ -127,7 +127,7 @@ fn add_holders(state: &[u32], sums: &mut [u32; 48]) -> u32
 
 // Whether an intertie's limit is its outside rights, what its pairs have, and its unassigned kW.
 fn limit_met(state: &[u32], intertie: usize, kw: u32) -> bool
-    requires { ⌜ (16000 ≤ length (now state)) × (intertie < 48) ⌝ }
+    requires { ⌜ (stateWords ≤ length (now state)) × (intertie < mostInterties) ⌝ }
     ensures { λ r. ⌜ r ≡ limitMet (now (state .entry)) intertie kw ⌝ }
 {
     let limit = row_word(state, layout::LIMIT, intertie) as u64;
@@ -137,13 +137,12 @@ fn limit_met(state: &[u32], intertie: usize, kw: u32) -> bool
 }
 
 // Whether every limit is met by the sums of the pairs.
-fn limits_met(state: &[u32], sums: &[u32; 48]) -> bool
+fn limits_met(state: &[u32], sums: &[u32; MOST_INTERTIES]) -> bool
     requires { ⌜ Sized (now state) ⌝ }
-    ensures { λ r. ⌜ r ≡ allTo (interties (now (state .entry)))
-        (λ (i : ℕ). limitMet (now (state .entry)) i (at (now (sums .entry)) i)) ⌝ }
+    ensures { λ r. let s = now (state .entry) in ⌜ r ≡ allTo (interties s) (λ (i : ℕ). limitMet s i (at (now (sums .entry)) i)) ⌝ }
 {
     let mut met = true;
-    for intertie in 0..intertie_count(state) {
+    for intertie in 0..state::intertie_count(state) as usize {
         met = met & limit_met(state, intertie, sums[intertie]);
     }
     met
@@ -152,11 +151,12 @@ fn limits_met(state: &[u32], sums: &[u32; 48]) -> bool
 // Limits in range, and the balance on each intertie.
 pub(super) fn limits_balance(state: &[u32]) -> bool
     requires { ⌜ Sized (now state) ⌝ }
-    ensures { λ r. ⌜ r ≡ (limitsInRange (now (state .entry)) && balanced (now (state .entry))) ⌝ }
+    ensures { λ r. let s = now (state .entry) in ⌜ r ≡ (limitsInRange s && balanced s) ⌝ }
 {
-    let mut sums = [0u32; 48];
+    let mut sums = [0u32; MOST_INTERTIES];
     let bits = add_holders(state, &mut sums);
-    row_within(state, layout::LIMIT, intertie_count(state), MOST_KW)
+    let interties = state::intertie_count(state) as usize;
+    row_within(state, layout::LIMIT, interties, MOST_KW)
         & (bits < TOO_MANY_KW)
         & limits_met(state, &sums)
 }

@@ -1,5 +1,4 @@
 // The sizes, the stage, and the fields of the holders.
-use super::rows::holder_count;
 use super::rows::row_sum;
 use super::rows::row_within;
 use base::limits;
@@ -8,7 +7,7 @@ use state::layout;
 ghost use mathlib.Core.Path.{_≡_};
 ghost use mathlib.Core.Bool.{_&&_};
 ghost use Rattle.state.specs.Orderly.{sizesInRange, stageInRange};
-ghost use Rattle.orderly.specs.Check.{Sized, fieldsInRange};
+ghost use Rattle.orderly.specs.Workers.Check.{Sized, fieldsInRange};
 
 const MOST_INTERTIES: u32 = limits::MOST_INTERTIES as u32;
 
@@ -20,11 +19,11 @@ const MOST_TOTAL_KW: u32 = limits::MOST_TOTAL_KW as u32;
 
 // Sizes and stage.
 pub(super) fn sizes_in_range(state: &[u32]) -> bool
-    ensures { λ r. ⌜ r ≡ (sizesInRange (now (state .entry)) && stageInRange (now (state .entry))) ⌝ }
+    ensures { λ r. let s = now (state .entry) in ⌜ r ≡ (sizesInRange s && stageInRange s) ⌝ }
 {
-    let interties = state::word(state, layout::SIZES, layout::INTERTIES);
-    let holders = state::word(state, layout::SIZES, layout::HOLDERS);
-    let stage = state::word(state, layout::YEAR, layout::STAGE);
+    let interties = state::intertie_count(state);
+    let holders = state::holder_count(state);
+    let stage = state::stage(state);
     let sizes = (1 <= interties)
         & (interties <= MOST_INTERTIES)
         & (1 <= holders)
@@ -37,7 +36,7 @@ pub(super) fn fields_in_range(state: &[u32]) -> bool
     requires { ⌜ Sized (now state) ⌝ }
     ensures { λ r. ⌜ r ≡ fieldsInRange (now (state .entry)) ⌝ }
 {
-    let holders = holder_count(state) as usize;
+    let holders = state::holder_count(state) as usize;
     let most_sellers: u32 = 0xffff_ffff >> (32 - holders);
     row_within(state, layout::LOAD_SHARE, holders, MOST_LOAD_SHARE)
         & (row_sum(state, layout::UNPLACED, holders) <= limits::MOST_TOTAL_KW)

@@ -1,4 +1,4 @@
-// Whether a state is orderly, which every call of the year asks first.
+// Whether a state is orderly (docs/RULES.md, "The year's state"), which every call of the year asks first.
 mod balance;
 mod fields;
 mod locks;
@@ -6,11 +6,13 @@ mod pending;
 mod rows;
 
 use base::limits::STATE_WORDS;
+use base::refusals;
 ghost use mathlib.Core.Path.{_≡_};
 ghost use Prim.Native.Nat.{_≤_};
 ghost use lib.ListN.{length};
+ghost use Rattle.base.specs.Limits.{stateWords};
 ghost use Rattle.state.specs.Orderly.{orderly, stateRefusal};
-ghost use Rattle.orderly.specs.Check.{Sized, rowsInOrder};
+ghost use Rattle.orderly.specs.Workers.Check.{Sized, rowsInOrder};
 
 // The refusal that every call of the year begins with: 5 for a state under 16,000 words, 6 for one
 // that is not orderly, else 0.
@@ -18,16 +20,17 @@ pub fn state_refusal(state: &[u32]) -> u32
     ensures { λ r. ⌜ r ≡ stateRefusal (now (state .entry)) ⌝ }
 {
     if state.len() < STATE_WORDS {
-        return 5;
+        return refusals::ROOM;
     }
     if is_orderly(state) {
         return 0;
     }
-    6
+    refusals::NOT_ORDERLY
 }
 
+// Whether a state of 16,000 words is orderly.
 fn is_orderly(state: &[u32]) -> bool
-    requires { ⌜ 16000 ≤ length (now state) ⌝ }
+    requires { ⌜ stateWords ≤ length (now state) ⌝ }
     ensures { λ r. ⌜ r ≡ orderly (now (state .entry)) ⌝ }
 {
     if fields::sizes_in_range(state) {

@@ -1,6 +1,4 @@
 // Locked kW and lock terms.
-use super::rows::holder_count;
-use super::rows::intertie_count;
 use super::rows::row_word;
 use base::limits;
 use base::stages;
@@ -12,9 +10,10 @@ ghost use lib.Dec.{leb};
 ghost use lib.ListN.{length};
 ghost use Rattle.base.specs.Choice.{pick};
 ghost use Rattle.base.specs.Sums.{allTo};
+ghost use Rattle.base.specs.Limits.{stateWords, mostHolders, mostInterties};
 ghost use Rattle.state.specs.Layout.{interties};
 ghost use Rattle.state.specs.Orderly.{lockedWithinPlaced, termsFit};
-ghost use Rattle.orderly.specs.Check.{Sized, lockFits, pairLockFits, unlocked};
+ghost use Rattle.orderly.specs.Workers.Check.{Sized, lockFits, pairLockFits, unlocked};
 
 // 1 for a pair whose locked kW or lock term is out of order, else 0.
 fn lock_fault(placed: u32, locked: u32, term: u32) -> u32
@@ -28,7 +27,7 @@ fn lock_fault(placed: u32, locked: u32, term: u32) -> u32
 
 // The same of a pair of the state.
 fn pair_fault(state: &[u32], holder: u32, intertie: usize) -> u32
-    requires { ⌜ (16000 ≤ length (now state)) × (holder < 32) × (intertie < 48) ⌝ }
+    requires { ⌜ (stateWords ≤ length (now state)) × (holder < mostHolders) × (intertie < mostInterties) ⌝ }
     ensures { λ r. ⌜ r ≡ pick {A = ℕ} (pairLockFits (now (state .entry)) holder intertie) 0 1 ⌝ }
 {
     lock_fault(
@@ -40,11 +39,11 @@ fn pair_fault(state: &[u32], holder: u32, intertie: usize) -> u32
 
 // Whether the pairs of a holder have their locks in order.
 fn pair_locks_in_order(state: &[u32], holder: u32) -> bool
-    requires { ⌜ Sized (now state) × (holder < 32) ⌝ }
-    ensures { λ r. ⌜ r ≡ allTo (interties (now (state .entry))) (λ (i : ℕ). pairLockFits (now (state .entry)) holder i) ⌝ }
+    requires { ⌜ Sized (now state) × (holder < mostHolders) ⌝ }
+    ensures { λ r. let s = now (state .entry) in ⌜ r ≡ allTo (interties s) (λ (i : ℕ). pairLockFits s holder i) ⌝ }
 {
     let mut faults: u32 = 0;
-    for intertie in 0..intertie_count(state) {
+    for intertie in 0..state::intertie_count(state) as usize {
         faults += pair_fault(state, holder, intertie);
     }
     faults == 0
@@ -52,11 +51,11 @@ fn pair_locks_in_order(state: &[u32], holder: u32) -> bool
 
 // Whether a holder has no locked kW and no lock term.
 fn has_no_lock(state: &[u32], holder: u32) -> bool
-    requires { ⌜ Sized (now state) × (holder < 32) ⌝ }
-    ensures { λ r. ⌜ r ≡ allTo (interties (now (state .entry))) (λ (i : ℕ). unlocked (now (state .entry)) holder i) ⌝ }
+    requires { ⌜ Sized (now state) × (holder < mostHolders) ⌝ }
+    ensures { λ r. let s = now (state .entry) in ⌜ r ≡ allTo (interties s) (λ (i : ℕ). unlocked s holder i) ⌝ }
 {
     let mut bits: u32 = 0;
-    for intertie in 0..intertie_count(state) {
+    for intertie in 0..state::intertie_count(state) as usize {
         bits = bits
             | row_word(state, layout::LOCKED + holder, intertie)
             | row_word(state, layout::TERM + holder, intertie);
@@ -66,10 +65,10 @@ fn has_no_lock(state: &[u32], holder: u32) -> bool
 
 // Whether the locks of a holder are in order. Before stage 4 there are none, which is quicker to see.
 fn holder_locks_in_order(state: &[u32], holder: u32) -> bool
-    requires { ⌜ Sized (now state) × (holder < 32) ⌝ }
-    ensures { λ r. ⌜ r ≡ allTo (interties (now (state .entry))) (λ (i : ℕ). pairLockFits (now (state .entry)) holder i) ⌝ }
+    requires { ⌜ Sized (now state) × (holder < mostHolders) ⌝ }
+    ensures { λ r. let s = now (state .entry) in ⌜ r ≡ allTo (interties s) (λ (i : ℕ). pairLockFits s holder i) ⌝ }
 {
-    if state::word(state, layout::YEAR, layout::STAGE) != stages::OPEN {
+    if state::stage(state) != stages::OPEN {
         if has_no_lock(state, holder) {
             return true;
         }
@@ -77,12 +76,13 @@ fn holder_locks_in_order(state: &[u32], holder: u32) -> bool
     pair_locks_in_order(state, holder)
 }
 
+// Whether the locks of all holders are in order.
 pub(super) fn locks_in_order(state: &[u32]) -> bool
     requires { ⌜ Sized (now state) ⌝ }
-    ensures { λ r. ⌜ r ≡ (lockedWithinPlaced (now (state .entry)) && termsFit (now (state .entry))) ⌝ }
+    ensures { λ r. let s = now (state .entry) in ⌜ r ≡ (lockedWithinPlaced s && termsFit s) ⌝ }
 {
     let mut in_order = true;
-    for holder in 0..holder_count(state) {
+    for holder in 0..state::holder_count(state) {
         in_order = in_order & holder_locks_in_order(state, holder);
     }
     in_order

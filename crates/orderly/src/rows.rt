@@ -8,23 +8,12 @@ ghost use lib.ListN.{length};
 ghost use Rattle.base.specs.Choice.{pick};
 ghost use Rattle.base.specs.Sums.{sumTo, allTo};
 ghost use Rattle.base.specs.Words.{at};
-ghost use Rattle.state.specs.Layout.{place, interties, holders};
-
-pub(super) fn intertie_count(state: &[u32]) -> usize
-    ensures { λ r. ⌜ r ≡ interties (now (state .entry)) ⌝ }
-{
-    state::word(state, layout::SIZES, layout::INTERTIES) as usize
-}
-
-pub(super) fn holder_count(state: &[u32]) -> u32
-    ensures { λ r. ⌜ r ≡ holders (now (state .entry)) ⌝ }
-{
-    state::word(state, layout::SIZES, layout::HOLDERS)
-}
+ghost use Rattle.base.specs.Limits.{stateWords};
+ghost use Rattle.state.specs.Layout.{rowWords, place, lastRow};
 
 // A word of a row.
 pub(super) fn row_word(state: &[u32], row: u32, column: usize) -> u32
-    requires { ⌜ (16000 ≤ length (now state)) × (row < 301) × (column < 48) ⌝ }
+    requires { ⌜ (stateWords ≤ length (now state)) × (row ≤ lastRow) × (column < rowWords) ⌝ }
     ensures { λ r. ⌜ r ≡ at (now (state .entry)) (place row column) ⌝ }
 {
     state[layout::ROW_WORDS * (row as usize) + column]
@@ -42,7 +31,7 @@ fn above(word: u32, most: u32) -> u32
 
 // Whether the first words of a row are at most a number.
 pub(super) fn row_within(state: &[u32], row: u32, count: usize, most: u32) -> bool
-    requires { ⌜ (16000 ≤ length (now state)) × (row < 301) × (count ≤ 48) ⌝ }
+    requires { ⌜ (stateWords ≤ length (now state)) × (row ≤ lastRow) × (count ≤ rowWords) ⌝ }
     ensures { λ r. ⌜ r ≡ allTo count (λ (c : ℕ). leb (at (now (state .entry)) (place row c)) most) ⌝ }
 {
     let mut faults: u32 = 0;
@@ -54,7 +43,7 @@ pub(super) fn row_within(state: &[u32], row: u32, count: usize, most: u32) -> bo
 
 // Whether the first words of a row are all 0.
 pub(super) fn row_is_clear(state: &[u32], row: u32, count: usize) -> bool
-    requires { ⌜ (16000 ≤ length (now state)) × (row < 301) × (count ≤ 48) ⌝ }
+    requires { ⌜ (stateWords ≤ length (now state)) × (row ≤ lastRow) × (count ≤ rowWords) ⌝ }
     ensures { λ r. ⌜ r ≡ allTo count (λ (c : ℕ). leb (at (now (state .entry)) (place row c)) 0) ⌝ }
 {
     let mut bits: u32 = 0;
@@ -66,7 +55,7 @@ pub(super) fn row_is_clear(state: &[u32], row: u32, count: usize) -> bool
 
 // The sum of a row's first words.
 pub(super) fn row_sum(state: &[u32], row: u32, count: usize) -> u64
-    requires { ⌜ (16000 ≤ length (now state)) × (row < 301) × (count ≤ 48) ⌝ }
+    requires { ⌜ (stateWords ≤ length (now state)) × (row ≤ lastRow) × (count ≤ rowWords) ⌝ }
     ensures { λ r. ⌜ r ≡ sumTo count (λ (c : ℕ). at (now (state .entry)) (place row c)) ⌝ }
 {
     let mut sum: u64 = 0;

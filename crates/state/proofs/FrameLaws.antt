@@ -8,10 +8,9 @@ use lib.ListN.{length, set}
 use lib.Seq.{getD-set-same, getD-set-other}
 use Rattle.base.specs.Sums.{sumTo}
 use Rattle.base.specs.Words.{at}
-use Rattle.base.proofs.SumLaws.{sumTo-same}
+use Rattle.base.proofs.SumLaws.{sumTo-same, sumTo-change}
 use Rattle.base.specs.Limits.{stateWords}
 use Rattle.state.specs.Layout.{place, firstWritten, interties, holders}
-use Rattle.state.proofs.BaseMore.{sumTo-change}
 
 -- another row or another column is another place
 pub place-apart : (r c r′ c′ : ℕ) → c < 48 → c′ < 48 → (r′ ≡ r → c′ ≡ c → ⊥) → place r′ c′ ≢ place r c

@@ -1,3 +1,2 @@
-pub mod BaseMore
 pub mod OrderlyLaws
 pub mod FrameLaws

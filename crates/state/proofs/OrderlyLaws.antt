@@ -10,12 +10,11 @@ use lib.ListN.{length}
 use borrow.Author.Tests.{le-leb, lt-ltb, eq-eqb, le-ltb, leb-true, ltb-false, eqb-true}
 use Rattle.base.specs.Choice.{pick}
 use Rattle.base.specs.Sums.{sumTo, allTo}
-use Rattle.base.proofs.SumLaws.{sumTo-term, sumTo-none}
-use Rattle.base.proofs.ChoiceLaws.{and-both, and-left, and-right}
+use Rattle.base.proofs.SumLaws.{sumTo-term, sumTo-none, each-le, all-le, each-eq, all-eq, each-pair, all-pairs}
+use Rattle.base.proofs.ChoiceLaws.{and-both, and-left, and-right, four, all-four}
 use Rattle.base.specs.Limits.{stateWords}
 use Rattle.state.specs.Layout.{interties, holders, limitOf, loadShareOf, step5ShareOf, step7TotalOf, reservedOf, stageOf, unassignedOf, unplacedOf, sellersOf, takingsOf, placedOf, takenOf, lockedOf, termOf, pendingOf, ofHolder}
 use Rattle.state.specs.Orderly.{orderly, sizesInRange, stageInRange, limitsInRange, loadSharesInRange, balanced, lockedWithinPlaced, pendingWithinUnplaced, kwInRange, takingsInRange, sellersAreHolders, termsFit, termFits, intertieKw, noRequests, stateRefusal}
-use Rattle.state.proofs.BaseMore.{four, all-four, each-le, all-le, each-eq, all-eq, each-pair, all-pairs}
 
 pub record Orderly (s : List ℕ) : Type 0 where
   -- sizes and stage in range

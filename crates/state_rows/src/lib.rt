@@ -1,26 +1,33 @@
 // Whole rows of the year's state, written at once.
+use base::limits::MOST_HOLDERS;
+use base::limits::MOST_INTERTIES;
+use base::limits::MOST_PAIRS;
 use base::limits::STATE_WORDS;
+use state::layout::LAST_ROW;
 use state::layout::ROW_WORDS;
+use state::layout::WHOLE_ROWS;
 ghost use mathlib.Core.Path.{_≡_};
-ghost use Prim.Native.Nat.{ℕ, _+_, _*_, _%_, _≤_, _<_};
+ghost use Prim.Native.Nat.{ℕ, _+_, _*_, _≤_, _<_};
 ghost use lib.ListN.{length};
-ghost use Rattle.base.specs.Choice.{pick};
+ghost use Rattle.base.specs.Limits.{stateWords, mostInterties};
 ghost use Rattle.base.specs.Words.{at};
-ghost use Rattle.state.specs.Layout.{place};
-ghost use Rattle.state_rows.specs.Rows.{fillRow, fillPairs, fitRow, fitField, fitPairs};
+ghost use Rattle.state.specs.Layout.{rowWords, place, wholeRows};
+ghost use Rattle.state_rows.specs.Rows.{fillRow, fillPairs, low32, fitRow, fitField, fitPairs};
+ghost use Rattle.state_rows.specs.Rows.{storedRow, storedPairs, raisedPairs, clearedPairs};
 
-// The rows that a state has whole.
-const ROWS: usize = 333;
+// 2^32: how many values a word has.
+const WORD_VALUES: u64 = 4_294_967_296;
 
 // Writes values, from one of them on, over the first columns of a row.
 fn write_row(state: &mut [u32], row: usize, count: usize, values: &[u64], from: usize)
-    requires { ⌜ (16000 ≤ length (now state)) × (row < 333) × (count ≤ 48) × (from + count ≤ length (now values)) ⌝ }
-    ensures { λ _. ⌜ now (state .exit) ≡ fillRow row count (λ (c : ℕ). at (now (values .entry)) (from + c) % 4294967296) (now (state .entry)) ⌝ }
+    requires { ⌜ (stateWords ≤ length (now state)) × (row < wholeRows) × (count ≤ rowWords) × (from + count ≤ length (now values)) ⌝ }
+    ensures { λ _. ⌜ now (state .exit)
+        ≡ fillRow row count (λ (c : ℕ). low32 (at (now (values .entry)) (from + c))) (now (state .entry)) ⌝ }
 {
     let first = ROW_WORDS * row;
     let mut column = 0;
     while column < count {
-        state[first + column] = (values[from + column] % 4_294_967_296) as u32;
+        state[first + column] = (values[from + column] % WORD_VALUES) as u32;
         column += 1;
     }
 }
@@ -29,14 +36,13 @@ fn write_row(state: &mut [u32], row: usize, count: usize, values: &[u64], from: 
 fn fits_row(words: usize, row: usize, count: usize, values: usize) -> bool
     ensures { λ r. ⌜ r ≡ fitRow words row count values ⌝ }
 {
-    (STATE_WORDS <= words) & (row < ROWS) & (count <= ROW_WORDS) & (count <= values)
+    (STATE_WORDS <= words) & (row < WHOLE_ROWS) & (count <= ROW_WORDS) & (count <= values)
 }
 
 // Writes values over the first columns of a row, of a value over 32 bits its low ones. Does nothing
 // where the state, the row, the count or the values don't fit.
 pub fn store_row(state: &mut [u32], row: usize, count: usize, values: &[u64])
-    ensures { λ _. ⌜ now (state .exit) ≡ pick (fitRow (length (now (state .entry))) row count (length (now (values .entry))))
-        (fillRow row count (λ (c : ℕ). at (now (values .entry)) c % 4294967296) (now (state .entry))) (now (state .entry)) ⌝ }
+    ensures { λ _. ⌜ now (state .exit) ≡ storedRow row count (now (values .entry)) (now (state .entry)) ⌝ }
 {
     if fits_row(state.len(), row, count, values.len()) {
         write_row(state, row, count, values, 0);
@@ -45,8 +51,10 @@ pub fn store_row(state: &mut [u32], row: usize, count: usize, values: &[u64])
 
 // Writes the rows of a table, 48 values a row, over the first columns of as many rows.
 fn write_rows(state: &mut [u32], field: usize, holders: usize, interties: usize, values: &[u64])
-    requires { ⌜ (16000 ≤ length (now state)) × (field + holders ≤ 333) × (interties ≤ 48) × (48 * holders ≤ length (now values)) ⌝ }
-    ensures { λ _. ⌜ now (state .exit) ≡ fillPairs field holders interties (λ (h i : ℕ). at (now (values .entry)) (48 * h + i) % 4294967296) (now (state .entry)) ⌝ }
+    requires { ⌜ (stateWords ≤ length (now state)) × (field + holders ≤ wholeRows) × (interties ≤ mostInterties)
+        × (rowWords * holders ≤ length (now values)) ⌝ }
+    ensures { λ _. ⌜ now (state .exit)
+        ≡ fillPairs field holders interties (λ (h i : ℕ). low32 (at (now (values .entry)) (place h i))) (now (state .entry)) ⌝ }
 {
     let mut holder = 0;
     while holder < holders {
@@ -59,14 +67,17 @@ fn write_rows(state: &mut [u32], field: usize, holders: usize, interties: usize,
 fn fits_field(words: usize, field: usize, holders: usize, interties: usize) -> bool
     ensures { λ r. ⌜ r ≡ fitField words field holders interties ⌝ }
 {
-    (STATE_WORDS <= words) & (field <= 300) & (holders <= 32) & (interties <= ROW_WORDS)
+    (STATE_WORDS <= words)
+        & (field <= LAST_ROW)
+        & (holders <= MOST_HOLDERS)
+        & (interties <= MOST_INTERTIES)
 }
 
 // Whether a table of the pairs fits a state of so many words.
 fn fits_pairs(words: usize, field: usize, holders: usize, interties: usize, values: usize) -> bool
     ensures { λ r. ⌜ r ≡ fitPairs words field holders interties values ⌝ }
 {
-    fits_field(words, field, holders, interties) & (1536 <= values)
+    fits_field(words, field, holders, interties) & (MOST_PAIRS <= values)
 }
 
 // Writes a table of the pairs, 48 values a holder, into the field that starts at a row, of a value
@@ -78,8 +89,7 @@ pub fn store_pairs(
     interties: usize,
     values: &[u64],
 )
-    ensures { λ _. ⌜ now (state .exit) ≡ pick (fitPairs (length (now (state .entry))) field holders interties (length (now (values .entry))))
-        (fillPairs field holders interties (λ (h i : ℕ). at (now (values .entry)) (48 * h + i) % 4294967296) (now (state .entry))) (now (state .entry)) ⌝ }
+    ensures { λ _. ⌜ now (state .exit) ≡ storedPairs field holders interties (now (values .entry)) (now (state .entry)) ⌝ }
 {
     if fits_pairs(state.len(), field, holders, interties, values.len()) {
         write_rows(state, field, holders, interties, values);
@@ -88,16 +98,16 @@ pub fn store_pairs(
 
 // A word raised by a value, both in 32 bits.
 fn raised(word: u32, value: u64) -> u32
-    ensures { λ r. ⌜ r ≡ (word + value % 4294967296) % 4294967296 ⌝ }
+    ensures { λ r. ⌜ r ≡ low32 (word + low32 value) ⌝ }
 {
-    (((word as u64) + value % 4_294_967_296) % 4_294_967_296) as u32
+    (((word as u64) + value % WORD_VALUES) % WORD_VALUES) as u32
 }
 
 // Raises the first columns of a row by values, from one of them on.
 fn raise_row(state: &mut [u32], row: usize, count: usize, values: &[u64], from: usize)
-    requires { ⌜ (16000 ≤ length (now state)) × (row < 333) × (count ≤ 48) × (from + count ≤ length (now values)) ⌝ }
-    ensures { λ _. ⌜ now (state .exit) ≡
-        fillRow row count (λ (c : ℕ). (at (now (state .entry)) (place row c) + at (now (values .entry)) (from + c) % 4294967296) % 4294967296) (now (state .entry)) ⌝ }
+    requires { ⌜ (stateWords ≤ length (now state)) × (row < wholeRows) × (count ≤ rowWords) × (from + count ≤ length (now values)) ⌝ }
+    ensures { λ _. let s = now (state .entry) in ⌜ now (state .exit)
+        ≡ fillRow row count (λ (c : ℕ). low32 (at s (place row c) + low32 (at (now (values .entry)) (from + c)))) s ⌝ }
 {
     let first = ROW_WORDS * row;
     let mut column = 0;
@@ -109,9 +119,10 @@ fn raise_row(state: &mut [u32], row: usize, count: usize, values: &[u64], from: 
 
 // Raises the first columns of as many rows by the rows of a table, 48 values a row.
 fn raise_rows(state: &mut [u32], field: usize, holders: usize, interties: usize, values: &[u64])
-    requires { ⌜ (16000 ≤ length (now state)) × (field + holders ≤ 333) × (interties ≤ 48) × (48 * holders ≤ length (now values)) ⌝ }
-    ensures { λ _. ⌜ now (state .exit) ≡
-        fillPairs field holders interties (λ (h i : ℕ). (at (now (state .entry)) (place (field + h) i) + at (now (values .entry)) (48 * h + i) % 4294967296) % 4294967296) (now (state .entry)) ⌝ }
+    requires { ⌜ (stateWords ≤ length (now state)) × (field + holders ≤ wholeRows) × (interties ≤ mostInterties)
+        × (rowWords * holders ≤ length (now values)) ⌝ }
+    ensures { λ _. let s = now (state .entry) in ⌜ now (state .exit)
+        ≡ fillPairs field holders interties (λ (h i : ℕ). low32 (at s (place (field + h) i) + low32 (at (now (values .entry)) (place h i)))) s ⌝ }
 {
     let mut holder = 0;
     while holder < holders {
@@ -129,8 +140,7 @@ pub fn raise_pairs(
     interties: usize,
     values: &[u64],
 )
-    ensures { λ _. ⌜ now (state .exit) ≡ pick (fitPairs (length (now (state .entry))) field holders interties (length (now (values .entry))))
-        (fillPairs field holders interties (λ (h i : ℕ). (at (now (state .entry)) (place (field + h) i) + at (now (values .entry)) (48 * h + i) % 4294967296) % 4294967296) (now (state .entry))) (now (state .entry)) ⌝ }
+    ensures { λ _. ⌜ now (state .exit) ≡ raisedPairs field holders interties (now (values .entry)) (now (state .entry)) ⌝ }
 {
     if fits_pairs(state.len(), field, holders, interties, values.len()) {
         raise_rows(state, field, holders, interties, values);
@@ -139,7 +149,7 @@ pub fn raise_pairs(
 
 // Clears the first columns of a row.
 fn clear_row(state: &mut [u32], row: usize, count: usize)
-    requires { ⌜ (16000 ≤ length (now state)) × (row < 333) × (count ≤ 48) ⌝ }
+    requires { ⌜ (stateWords ≤ length (now state)) × (row < wholeRows) × (count ≤ rowWords) ⌝ }
     ensures { λ _. ⌜ now (state .exit) ≡ fillRow row count (λ (c : ℕ). 0) (now (state .entry)) ⌝ }
 {
     let first = ROW_WORDS * row;
@@ -152,7 +162,7 @@ fn clear_row(state: &mut [u32], row: usize, count: usize)
 
 // Clears the first columns of as many rows.
 fn clear_rows(state: &mut [u32], field: usize, holders: usize, interties: usize)
-    requires { ⌜ (16000 ≤ length (now state)) × (field + holders ≤ 333) × (interties ≤ 48) ⌝ }
+    requires { ⌜ (stateWords ≤ length (now state)) × (field + holders ≤ wholeRows) × (interties ≤ mostInterties) ⌝ }
     ensures { λ _. ⌜ now (state .exit) ≡ fillPairs field holders interties (λ (h i : ℕ). 0) (now (state .entry)) ⌝ }
 {
     let mut holder = 0;
@@ -165,8 +175,7 @@ fn clear_rows(state: &mut [u32], field: usize, holders: usize, interties: usize)
 // Clears the pairs of the field that starts at a row. Does nothing where the state, the field or the sizes
 // don't fit.
 pub fn clear_pairs(state: &mut [u32], field: usize, holders: usize, interties: usize)
-    ensures { λ _. ⌜ now (state .exit) ≡ pick (fitField (length (now (state .entry))) field holders interties)
-        (fillPairs field holders interties (λ (h i : ℕ). 0) (now (state .entry))) (now (state .entry)) ⌝ }
+    ensures { λ _. ⌜ now (state .exit) ≡ clearedPairs field holders interties (now (state .entry)) ⌝ }
 {
     if fits_field(state.len(), field, holders, interties) {
         clear_rows(state, field, holders, interties);

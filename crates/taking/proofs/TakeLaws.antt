@@ -24,7 +24,7 @@ use Rattle.call.proofs.TestLaws.{is-holder, is-intertie, one-stage, kw-in-range
 use Rattle.call.proofs.StoreLaws.{word-by}
 use Rattle.call.proofs.KeptLaws.{SameRequests, on-intertie-same, of-holder-same, same-unplaced, same-unplaced-sum, pending-after, no-pending-after, sellers-after, orderly-after}
 use Rattle.taking.specs.declared.Calendar.{Calendar}
-use Rattle.taking.specs.Calendar.{weekOf, countIn, dayRefused, afterTaking}
+use Rattle.taking.specs.Calendar.{weekOf, countIn, refusesDay, afterTaking}
 use Rattle.taking.specs.Take.{calendarOf, takeRefusal, takeKw, withCalendar, takeState}
 
 -- what holds where no number applies
@@ -48,7 +48,7 @@ take-done s h i kw day e =
     let rung7 = not-first (not (eqb (stageOf s) 4)) 7 _ (omega arith) (none-second (stateRefusal s) _ e) in
     let rung8 = not-first (noHolder s h || noIntertie s i) 8 _ (omega arith) (rung7 .1) in
     let rung9 = not-first (badKw kw) 9 _ (omega arith) (rung8 .1) in
-    let rung11 = not-first (dayRefused (calendarOf s h) day) 11 _ (omega arith) (rung9 .1) in
+    let rung11 = not-first (refusesDay (calendarOf s h) day) 11 _ (omega arith) (rung9 .1) in
     let rung12 = not-whenever (eqb (unassignedOf s i) 0) 12 (omega arith) (rung11 .1) in
     let state = refusal-none s (none-first (stateRefusal s) _ e) in
     let kwRange = kw-in-range kw (rung9 .0) in

@@ -1,16 +1,20 @@
--- Take (stage 4), with a day number: grants the smaller of the kW named and the unassigned, into taken. Two granted takings per holder and week.
+-- Take (stage 4), with a day number: grants the smaller of the kW named and the unassigned, into taken.
+-- Two granted takings per holder and week.
 use Prim.Native.Nat.{ℕ, _+_, _-_, min}
 use mathlib.Core.List.{List}
-use mathlib.Core.Bool.{not, _||_}
+use mathlib.Core.Bool.{not}
 use lib.Dec.{eqb}
 use lib.ListN.{set}
 use Rattle.base.specs.Answers.{granted}
-use Rattle.state.specs.Layout.{stageOf, lastDayAt, lastDayOf, unassignedAt, unassignedOf, lastWeekAt, lastWeekOf, takingsAt, takingsOf, takenAt, takenOf}
+use Rattle.base.specs.Refusals.{stageRefused, noSuchRefused, rangeRefused, dayRefused, noneLeftRefused}
+use Rattle.base.specs.Stages.{openStage}
+use Rattle.state.specs.Layout.{stageOf, lastDayAt, lastDayOf, unassignedAt, unassignedOf}
+use Rattle.state.specs.Layout.{lastWeekAt, lastWeekOf, takingsAt, takingsOf, takenAt, takenOf}
 use Rattle.state.specs.Orderly.{stateRefusal}
 use Rattle.call.specs.Outcome.{Outcome, decided, orElse, whenever}
-use Rattle.call.specs.Tests.{noHolder, noIntertie, badKw}
+use Rattle.call.specs.Tests.{noPair, badKw}
 use Rattle.taking.specs.declared.Calendar.{Calendar}
-use Rattle.taking.specs.Calendar.{dayRefused, afterTaking}
+use Rattle.taking.specs.Calendar.{refusesDay, afterTaking}
 
 -- the calendar of a holder in a state
 abbrev pub calendarOf : List ℕ → ℕ → Calendar
@@ -20,11 +24,11 @@ calendarOf s h = record { «last_day» = lastDayOf s; week = lastWeekOf s h; cou
 unfoldable pub takeRefusal : List ℕ → ℕ → ℕ → ℕ → ℕ → ℕ
 takeRefusal s h i kw day =
     orElse (stateRefusal s)
-    (orElse (whenever (not (eqb (stageOf s) 4)) 7)
-    (orElse (whenever (noHolder s h || noIntertie s i) 8)
-    (orElse (whenever (badKw kw) 9)
-    (orElse (whenever (dayRefused (calendarOf s h) day) 11)
-    (whenever (eqb (unassignedOf s i) 0) 12)))))
+    (orElse (whenever (not (eqb (stageOf s) openStage)) stageRefused)
+    (orElse (whenever (noPair s h i) noSuchRefused)
+    (orElse (whenever (badKw kw) rangeRefused)
+    (orElse (whenever (refusesDay (calendarOf s h) day) dayRefused)
+    (whenever (eqb (unassignedOf s i) 0) noneLeftRefused)))))
 
 -- the kW granted
 abbrev pub takeKw : List ℕ → ℕ → ℕ → ℕ
@@ -43,6 +47,7 @@ takeState s h i kw day =
     (takenAt h i) (takenOf s h i + takeKw s i kw))
     h (afterTaking (calendarOf s h) day)
 
+-- the call: a refusal leaves the state as it was
 unfoldable pub take : List ℕ → ℕ → ℕ → ℕ → ℕ → Outcome
 take s h i kw day =
     decided (takeRefusal s h i kw day) s (record { answer = granted (takeKw s i kw) 0; state = takeState s h i kw day })

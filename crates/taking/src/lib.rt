@@ -1,16 +1,18 @@
-// Takings of unassigned kW in stage 4, at most two of a holder in a week.
+// Takings of unassigned kW in stage 4, at most two of a holder in a week (docs/RULES.md, "Calls of the year").
 use base::Answer;
-use base::limits;
+use base::limits::MOST_TAKINGS;
+use base::limits::WEEK_DAYS;
+use base::numbers::smaller;
+use base::refusals;
 use state::layout;
 ghost use mathlib.Core.Path.{_≡_};
 ghost use Prim.Native.Nat.{_+_, _-_, _<_, _≤_, _^_};
 ghost use lib.Dec.{eqb};
 ghost use lib.ListN.{set};
+ghost use Rattle.base.specs.Limits.{mostTakings};
 ghost use Rattle.state.specs.Layout.{unassignedAt, unassignedOf, takenAt, takenOf};
-ghost use Rattle.taking.specs.Calendar.{weekOf, countIn, dayRefused, afterTaking};
+ghost use Rattle.taking.specs.Calendar.{weekOf, countIn, refusesDay, afterTaking};
 ghost use Rattle.taking.specs.Take.{calendarOf, takeRefusal, takeKw, withCalendar, take};
-
-const WEEK_DAYS: u32 = 7;
 
 // The calendar of a holder's takings: the day of the last one, whoever's it was, the week of the
 // holder's own last one, and the holder's takings in that week.
@@ -28,16 +30,16 @@ impl Calendar {
         if self.week == week { self.count } else { 0 }
     }
 
-    // Number 11: whether the day is before the last taking's, or its week has two takings.
+    // Refusal 11: whether the day is before the last taking's, or its week has two takings.
     fn refuses(self, day: u32) -> bool
-        ensures { λ r. ⌜ r ≡ dayRefused self day ⌝ }
+        ensures { λ r. ⌜ r ≡ refusesDay self day ⌝ }
     {
-        (day < self.last_day) | (limits::MOST_TAKINGS <= self.count_in(day / WEEK_DAYS))
+        (day < self.last_day) | (MOST_TAKINGS <= self.count_in(day / WEEK_DAYS))
     }
 
     // The calendar after a taking on a day.
     fn after_taking(self, day: u32) -> Calendar
-        requires { ⌜ countIn self (weekOf day) < 2 ⌝ }
+        requires { ⌜ countIn self (weekOf day) < mostTakings ⌝ }
         ensures { λ r. ⌜ r ≡ afterTaking self day ⌝ }
     {
         let week = day / WEEK_DAYS;
@@ -51,8 +53,7 @@ impl Calendar {
 
 // Takes kW that are unassigned on an intertie: the smaller of those named and those there are.
 pub fn take(state: &mut [u32], holder: u32, intertie: u32, kw: u64, day: u32) -> Answer
-    ensures { λ r. ⌜ (r ≡ take (now (state .entry)) holder intertie kw day .answer)
-        × (now (state .exit) ≡ take (now (state .entry)) holder intertie kw day .state) ⌝ }
+    ensures { λ r. let done = take (now (state .entry)) holder intertie kw day in ⌜ (r ≡ done .answer) × (now (state .exit) ≡ done .state) ⌝ }
 {
     let refusal = take_refusal(state, holder, intertie, kw, day);
     if refusal != 0 {
@@ -74,19 +75,19 @@ fn take_refusal(state: &[u32], holder: u32, intertie: u32, kw: u64, day: u32) ->
         return unfit;
     }
     if call::not_open(state) {
-        return 7;
+        return refusals::STAGE;
     }
     if call::no_pair(state, holder, intertie) {
-        return 8;
+        return refusals::NO_SUCH;
     }
     if call::bad_kw(kw) {
-        return 9;
+        return refusals::RANGE;
     }
     if day_refused(state, holder, day) {
-        return 11;
+        return refusals::DAY;
     }
     if none_unassigned(state, intertie) {
-        return 12;
+        return refusals::NONE_LEFT;
     }
     0
 }
@@ -102,22 +103,22 @@ fn calendar_of(state: &[u32], holder: u32) -> Calendar
     }
 }
 
-// Number 11: whether the holder's calendar refuses the day.
+// Refusal 11: whether the holder's calendar refuses the day.
 fn day_refused(state: &[u32], holder: u32, day: u32) -> bool
-    ensures { λ r. ⌜ r ≡ dayRefused (calendarOf (now (state .entry)) holder) day ⌝ }
+    ensures { λ r. ⌜ r ≡ refusesDay (calendarOf (now (state .entry)) holder) day ⌝ }
 {
     calendar_of(state, holder).refuses(day)
 }
 
 // The holder's calendar after a taking on a day.
 fn calendar_after(state: &[u32], holder: u32, day: u32) -> Calendar
-    requires { ⌜ countIn (calendarOf (now state) holder) (weekOf day) < 2 ⌝ }
+    requires { ⌜ countIn (calendarOf (now state) holder) (weekOf day) < mostTakings ⌝ }
     ensures { λ r. ⌜ r ≡ afterTaking (calendarOf (now (state .entry)) holder) day ⌝ }
 {
     calendar_of(state, holder).after_taking(day)
 }
 
-// Number 12: whether the intertie has nothing unassigned.
+// Refusal 12: whether the intertie has nothing unassigned.
 fn none_unassigned(state: &[u32], intertie: u32) -> bool
     ensures { λ r. ⌜ r ≡ eqb (unassignedOf (now (state .entry)) intertie) 0 ⌝ }
 {
@@ -128,16 +129,14 @@ fn none_unassigned(state: &[u32], intertie: u32) -> bool
 fn take_kw(state: &[u32], intertie: u32, kw: u64) -> u64
     ensures { λ r. ⌜ r ≡ takeKw (now (state .entry)) intertie kw ⌝ }
 {
-    let unassigned = state::word(state, layout::UNASSIGNED, intertie) as u64;
-    if kw < unassigned { kw } else { unassigned }
+    smaller(kw, state::word(state, layout::UNASSIGNED, intertie) as u64)
 }
 
 // Gives unassigned kW of an intertie to a holder, into taken.
 fn give(state: &mut [u32], holder: u32, intertie: u32, kw: u32)
     requires { ⌜ (kw ≤ unassignedOf (now state) intertie) × (takenOf (now state) holder intertie + kw < 2 ^ 32) ⌝ }
-    ensures { λ _. ⌜ now (state .exit) ≡
-        set (set (now (state .entry)) (unassignedAt intertie) (unassignedOf (now (state .entry)) intertie - kw))
-        (takenAt holder intertie) (takenOf (now (state .entry)) holder intertie + kw) ⌝ }
+    ensures { λ _. let s = now (state .entry) in ⌜ now (state .exit)
+        ≡ set (set s (unassignedAt intertie) (unassignedOf s intertie - kw)) (takenAt holder intertie) (takenOf s holder intertie + kw) ⌝ }
 {
     let unassigned = state::word(state, layout::UNASSIGNED, intertie);
     let taken = state::pair_word(state, layout::TAKEN, holder, intertie);

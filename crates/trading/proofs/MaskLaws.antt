@@ -12,7 +12,7 @@ use lib.Pow.{pow-pos, pow-lt, pow-add, high-ones, shl-shr}
 use Rattle.base.specs.Choice.{pick}
 use Rattle.base.specs.Sums.{sumTo}
 use Rattle.base.proofs.ChoiceLaws.{pick-by}
-use Rattle.state.proofs.BaseMore.{sumTo-change}
+use Rattle.base.proofs.SumLaws.{sumTo-change}
 use Rattle.trading.specs.Trade.{withSeller}
 
 -- a bit that is put where it may stand already

@@ -1,24 +1,26 @@
 -- Trade (stage 1): unplaced kW from one holder to another; the seller joins the buyer's sellers, and is counted once however often it sold.
 use Prim.Native.Nat.{ℕ, _+_, _-_, _/_, _%_, _^_}
 use mathlib.Core.List.{List}
-use mathlib.Core.Bool.{not, _||_}
+use mathlib.Core.Bool.{not}
 use lib.Dec.{ltb, eqb}
 use lib.ListN.{set}
 use Rattle.base.specs.Choice.{pick}
 use Rattle.base.specs.Answers.{granted}
+use Rattle.base.specs.Refusals.{stageRefused, noSuchRefused, rangeRefused, tooMuchRefused}
+use Rattle.base.specs.Stages.{tradingStage}
 use Rattle.state.specs.Layout.{stageOf, unplacedAt, unplacedOf, sellersAt, sellersOf}
 use Rattle.state.specs.Orderly.{stateRefusal}
 use Rattle.call.specs.Outcome.{Outcome, decided, orElse, whenever}
-use Rattle.call.specs.Tests.{noHolder, badKw}
+use Rattle.call.specs.Tests.{unfitParties, badKw}
 
 -- the lowest number that applies, 0 if none
 unfoldable pub tradeRefusal : List ℕ → ℕ → ℕ → ℕ → ℕ
 tradeRefusal s seller buyer kw =
     orElse (stateRefusal s)
-    (orElse (whenever (not (eqb (stageOf s) 1)) 7)
-    (orElse (whenever (noHolder s seller || noHolder s buyer || eqb seller buyer) 8)
-    (orElse (whenever (badKw kw) 9)
-    (whenever (ltb (unplacedOf s seller) kw) 10))))
+    (orElse (whenever (not (eqb (stageOf s) tradingStage)) stageRefused)
+    (orElse (whenever (unfitParties s seller buyer) noSuchRefused)
+    (orElse (whenever (badKw kw) rangeRefused)
+    (whenever (ltb (unplacedOf s seller) kw) tooMuchRefused))))
 
 -- a mask of sellers with one more: bit j stands for holder j
 abbrev pub withSeller : ℕ → ℕ → ℕ
@@ -33,6 +35,7 @@ tradeState s seller buyer kw =
     (unplacedAt buyer) (unplacedOf s buyer + kw))
     (sellersAt buyer) (withSeller (sellersOf s buyer) seller)
 
+-- the call: a refusal leaves the state as it was
 unfoldable pub trade : List ℕ → ℕ → ℕ → ℕ → Outcome
 trade s seller buyer kw =
     decided (tradeRefusal s seller buyer kw) s (record { answer = granted kw 0; state = tradeState s seller buyer kw })

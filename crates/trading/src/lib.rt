@@ -1,20 +1,22 @@
 // Trade and request: how unplaced kilowatts pass from holder to holder, and how they are asked for
-// on an intertie (document 01, "Calls of the year").
+// on an intertie (docs/RULES.md, "Calls of the year").
 use base::Answer;
+use base::refusals;
 use base::stages;
 use state::layout;
 ghost use mathlib.Core.Path.{_≡_};
 ghost use mathlib.Core.Bool.{not, _||_};
 ghost use Prim.Native.Nat.{_+_, _<_};
 ghost use lib.Dec.{ltb, eqb};
+ghost use Rattle.base.specs.Limits.{mostHolders};
+ghost use Rattle.base.specs.Stages.{tradingStage, firstRequestsStage, secondRequestsStage};
 ghost use Rattle.state.specs.Layout.{stageOf, unplacedOf, pendingOf, ofHolder};
-ghost use Rattle.call.specs.Tests.{noHolder, noIntertie};
 ghost use Rattle.trading.specs.Trade.{tradeRefusal, withSeller, tradeState, trade};
 ghost use Rattle.trading.specs.Request.{requestRefusal, requestState, request};
 
 // Trade: unplaced kW from one holder to another, in stage 1. The seller joins the buyer's sellers.
 pub fn trade(state: &mut [u32], seller: u32, buyer: u32, kw: u64) -> Answer
-    ensures { λ r. ⌜ (r ≡ trade (now (state .entry)) seller buyer kw .answer) × (now (state .exit) ≡ trade (now (state .entry)) seller buyer kw .state) ⌝ }
+    ensures { λ r. let done = trade (now (state .entry)) seller buyer kw in ⌜ (r ≡ done .answer) × (now (state .exit) ≡ done .state) ⌝ }
 {
     let refusal = trade_refusal(state, seller, buyer, kw);
     if refusal != 0 {
@@ -26,7 +28,7 @@ pub fn trade(state: &mut [u32], seller: u32, buyer: u32, kw: u64) -> Answer
 
 // Request: adds to a holder's pending kW on an intertie, in stages 2 and 3.
 pub fn request(state: &mut [u32], holder: u32, intertie: u32, kw: u64) -> Answer
-    ensures { λ r. ⌜ (r ≡ request (now (state .entry)) holder intertie kw .answer) × (now (state .exit) ≡ request (now (state .entry)) holder intertie kw .state) ⌝ }
+    ensures { λ r. let done = request (now (state .entry)) holder intertie kw in ⌜ (r ≡ done .answer) × (now (state .exit) ≡ done .state) ⌝ }
 {
     let refusal = request_refusal(state, holder, intertie, kw);
     if refusal != 0 {
@@ -45,16 +47,16 @@ fn trade_refusal(state: &[u32], seller: u32, buyer: u32, kw: u64) -> u32
         return unfit;
     }
     if no_trades(state) {
-        return 7;
+        return refusals::STAGE;
     }
-    if unfit_parties(state, seller, buyer) {
-        return 8;
+    if call::unfit_parties(state, seller, buyer) {
+        return refusals::NO_SUCH;
     }
     if call::bad_kw(kw) {
-        return 9;
+        return refusals::RANGE;
     }
     if over_unplaced(state, seller, kw) {
-        return 10;
+        return refusals::TOO_MUCH;
     }
     0
 }
@@ -68,62 +70,49 @@ fn request_refusal(state: &[u32], holder: u32, intertie: u32, kw: u64) -> u32
         return unfit;
     }
     if no_requests(state) {
-        return 7;
+        return refusals::STAGE;
     }
-    if unfit_pair(state, holder, intertie) {
-        return 8;
+    if call::no_pair(state, holder, intertie) {
+        return refusals::NO_SUCH;
     }
     if call::bad_kw(kw) {
-        return 9;
+        return refusals::RANGE;
     }
     if over_unplaced_with_pending(state, holder, kw) {
-        return 10;
+        return refusals::TOO_MUCH;
     }
     0
 }
 
-// Number 7: whether the stage has no trades.
+// Refusal 7: whether the stage has no trades.
 fn no_trades(state: &[u32]) -> bool
-    ensures { λ r. ⌜ r ≡ not (eqb (stageOf (now (state .entry))) 1) ⌝ }
+    ensures { λ r. ⌜ r ≡ not (eqb (stageOf (now (state .entry))) tradingStage) ⌝ }
 {
-    call::stage(state) != stages::TRADING
+    state::stage(state) != stages::TRADING
 }
 
-// Number 7: whether the stage has no requests.
+// Refusal 7: whether the stage has no requests.
 fn no_requests(state: &[u32]) -> bool
-    ensures { λ r. ⌜ r ≡ not (eqb (stageOf (now (state .entry))) 2 || eqb (stageOf (now (state .entry))) 3) ⌝ }
+    ensures { λ r. let stage = stageOf (now (state .entry)) in
+        ⌜ r ≡ not (eqb stage firstRequestsStage || eqb stage secondRequestsStage) ⌝ }
 {
-    let stage = call::stage(state);
+    let stage = state::stage(state);
     !((stage == stages::FIRST_REQUESTS) | (stage == stages::SECOND_REQUESTS))
 }
 
-// Number 8: whether a party of a trade is no holder, or both are one.
-fn unfit_parties(state: &[u32], seller: u32, buyer: u32) -> bool
-    ensures { λ r. ⌜ r ≡ (noHolder (now (state .entry)) seller || noHolder (now (state .entry)) buyer || eqb seller buyer) ⌝ }
-{
-    call::no_holder(state, seller) | call::no_holder(state, buyer) | (seller == buyer)
-}
-
-// Number 8: whether a request names no holder or no intertie.
-fn unfit_pair(state: &[u32], holder: u32, intertie: u32) -> bool
-    ensures { λ r. ⌜ r ≡ (noHolder (now (state .entry)) holder || noIntertie (now (state .entry)) intertie) ⌝ }
-{
-    call::no_holder(state, holder) | call::no_intertie(state, intertie)
-}
-
-// Number 10: whether kW are more than the holder's unplaced.
+// Refusal 10: whether kW are more than the holder's unplaced.
 fn over_unplaced(state: &[u32], holder: u32, kw: u64) -> bool
     ensures { λ r. ⌜ r ≡ ltb (unplacedOf (now (state .entry)) holder) kw ⌝ }
 {
     unplaced(state, holder) < kw
 }
 
-// Number 10: whether kW and all that the holder has pending are more than its unplaced.
+// Refusal 10: whether kW and all that the holder has pending are more than its unplaced.
 fn over_unplaced_with_pending(state: &[u32], holder: u32, kw: u64) -> bool
-    ensures { λ r. ⌜ r ≡ ltb (unplacedOf (now (state .entry)) holder) (ofHolder pendingOf (now (state .entry)) holder + kw) ⌝ }
+    ensures { λ r. let s = now (state .entry) in ⌜ r ≡ ltb (unplacedOf s holder) (ofHolder pendingOf s holder + kw) ⌝ }
 {
     let most = unplaced(state, holder);
-    let pending = call::of_holder(state, layout::PENDING, holder);
+    let pending = state::of_holder(state, layout::PENDING, holder);
     if most < pending {
         return true;
     }
@@ -153,7 +142,7 @@ fn sell(state: &mut [u32], seller: u32, buyer: u32, kw: u64)
 
 // A mask of sellers with one more. A bit is set once, however often its holder sold.
 fn with_seller(sellers: u32, seller: u32) -> u32
-    requires { ⌜ seller < 32 ⌝ }
+    requires { ⌜ seller < mostHolders ⌝ }
     ensures { λ r. ⌜ r ≡ withSeller sellers seller ⌝ }
 {
     sellers | (1 << seller)

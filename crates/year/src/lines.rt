@@ -1,8 +1,8 @@
 // Lines on standard output. Each function answers whether its lines were written. Where they were not, standard
 // error says why.
 use base::encoding::ANSWER_WORDS;
+use base::limits::GRANTS_WORDS;
 use base::limits::STATE_WORDS;
-use closing::GRANTS_WORDS;
 use control_room::ANSWERS_WORDS;
 use control_room::CALLS_WORDS;
 use libc::STDOUT_FILENO;

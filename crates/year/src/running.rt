@@ -4,7 +4,7 @@ use super::lines;
 use base::encoding;
 use base::encoding::ANSWER_WORDS;
 use base::encoding::CALL_WORDS;
-use closing::GRANTS_WORDS;
+use base::limits::GRANTS_WORDS;
 use state::layout;
 ghost use Prim.Native.Nat.{_*_, _≤_, _<_};
 ghost use mathlib.Core.Path.{_≡_};

@@ -62,7 +62,7 @@ const OF_THE_LIBRARY: [(&str, &str, &str); 57] = [
     ("MOST_YEARS", "readings", "MOST_YEARS"),
     ("MOST_RECORDS", "carrying", "MOST_RECORDS"),
     ("POST_NUMBERS", "posting", "NUMBERS"),
-    ("GRANTS_WORDS", "closing", "GRANTS_WORDS"),
+    ("GRANTS_WORDS", "base", "GRANTS_WORDS"),
     ("CALL_WORDS", "encoding", "CALL_WORDS"),
     ("ANSWER_WORDS", "encoding", "ANSWER_WORDS"),
     ("CALL_TRADE", "encoding", "TRADE"),

@@ -6,7 +6,7 @@ use Rattle.call.proofs.no_holder.Tie as tie
 returns : tie.Need-returns
 returns c =
     let start : tie.Start = search needs in
-    ap (λ n. leb n (start .args .holder)) (c .word .ensures)
+    ap (λ n. leb n (start .args .holder)) (c .holder-count .ensures)
 
 pub no-holder-spec : {M : Type 1} → statement M
 no-holder-spec =

@@ -6,7 +6,7 @@ use Rattle.call.proofs.no_intertie.Tie as tie
 returns : tie.Need-returns
 returns c =
     let start : tie.Start = search needs in
-    ap (λ n. leb n (start .args .intertie)) (c .word .ensures)
+    ap (λ n. leb n (start .args .intertie)) (c .intertie-count .ensures)
 
 pub no-intertie-spec : {M : Type 1} → statement M
 no-intertie-spec =

@@ -1,14 +1,7 @@
 -- `state::of_holder` meets its contract: after i turns the sum is that of the first i interties.
-use Prim.Native.Nat.{ℕ, _+_, _-_, _*_, _≤_}
-use mathlib.Core.Path.{_≡_, sym, ap, _∙_}
-use mathlib.Core.List.{List}
-use native.Mathlib.Omega.{arith}
-use denote.Ref.{now}
-use Rattle.base.specs.Sums.{sumTo}
-use Rattle.base.specs.Words.{at}
+use Rattle.base.proofs.Prelude.{ℕ, _+_, _-_, _*_, _≤_, _≡_, sym, ap, _∙_, List, arith, now, needs, sumTo, at}
 use Rattle.base.proofs.SumLaws.{sumTo-zero, sumTo-more}
 use Rattle.state.specs.Layout.{place}
-use borrow.Author.Needs.{needs}
 use Rattle.state.proofs.of_holder.Statement.{statement}
 use Rattle.state.proofs.of_holder.Tie as tie
 
@@ -25,35 +18,26 @@ abbrev μ-loop : tie.MeasureT-loop
 
 loop-holds : tie.Need-loop-holds Inv-loop μ-loop
 loop-holds c =
-    let a = c .before .before .args in
+    let start : tie.Start Inv-loop μ-loop = search needs in let a = start .args in
     (search needs, sym (sumTo-zero (pairs (now (a .state)) (a .field) (a .holder))), search needs)
 
 loop-again : tie.Need-loop-again Inv-loop μ-loop
 loop-again c =
-    let a = c .before .before .before .before .before .args in (
+    let at-loop : tie.At-loop Inv-loop μ-loop = search needs in
+    let start : tie.Start Inv-loop μ-loop = search needs in let a = start .args in (
       search needs,
-      omega (arith, c .before .before .loop .inv .1, c .pair-word .ensures, sumTo-more (c .before .before .loop .intertie) (pairs (now (a .state)) (a .field) (a .holder))),
+      omega (arith, at-loop .loop .inv .1, c .pair-word .ensures, sumTo-more (at-loop .loop .intertie) (pairs (now (a .state)) (a .field) (a .holder))),
       search needs,
     )
 
 returns : tie.Need-returns Inv-loop μ-loop
 returns c =
-    let a = c .before .before .before .before .args in
-    let end : c .before .loop .intertie ≡ c .before .before .intertie-count .result = omega arith in
-    c .before .loop .inv .1 ∙ ap (λ n. sumTo n (pairs (now (a .state)) (a .field) (a .holder))) (end ∙ c .before .before .intertie-count .ensures)
+    let after-count : tie.After-intertie-count Inv-loop μ-loop = search needs in
+    let start : tie.Start Inv-loop μ-loop = search needs in let a = start .args in
+    let end : c .before .loop .intertie ≡ after-count .intertie-count .result = omega arith in
+    c .before .loop .inv .1 ∙ ap (λ n. sumTo n (pairs (now (a .state)) (a .field) (a .holder))) (end ∙ after-count .intertie-count .ensures)
 
 pub of-holder-spec : {M : Type 1} → statement M
 of-holder-spec =
-    tie.close
-    (tie.spec
-    Inv-loop
-    μ-loop
-    (λ c κs. search needs)
-    loop-holds
-    (λ c κs. search needs)
-    (λ c. search needs)
-    (λ c. search needs)
-    (λ c. search needs)
-    (λ c. search needs)
-    loop-again
-    returns)
+    tie.close (tie.spec Inv-loop μ-loop (λ c κs. search needs) loop-holds (λ c κs. search needs) (λ c. search needs)
+    (λ c. search needs) (λ c. search needs) (λ c. search needs) loop-again returns)

@@ -55,5 +55,5 @@ returns c =
 
 pub left-unassigned-spec : {M : Type 1} → statement M
 left-unassigned-spec =
-    tie.close (tie.spec (λ c κs. search needs) (λ c κs. search needs) (λ c. search needs) read-row-requires
+    tie.close (tie.spec (λ c κs. search needs) (λ c. search needs) (λ c κs. search needs) (λ c. search needs) (λ c. search needs) read-row-requires
     take-off-holders-requires (λ c. search needs) returns)

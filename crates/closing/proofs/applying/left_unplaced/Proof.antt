@@ -1,9 +1,8 @@
 -- `left_unplaced` meets its contract: after m turns the first m holders are written.
 use Rattle.base.proofs.Prelude.{ℕ, _+_, _-_, _≤_, _≡_, refl, sym, List, arith, length, length-set, now, needs, sumTo, fill}
-use Rattle.base.proofs.WordLaws.{fill-zero}
+use Rattle.base.proofs.WordLaws.{fill-zero, fill-turn, fill-done}
 use Rattle.intertie_shares.specs.Pairs.{atPair}
 use Rattle.state.specs.Layout.{unplacedOf}
-use Rattle.state.proofs.BaseMore.{fill-turn, fill-end}
 use Rattle.closing.proofs.applying.left_unplaced.Statement.{statement}
 use Rattle.closing.proofs.applying.left_unplaced.Tie as tie
 
@@ -38,13 +37,13 @@ loop-again c =
     let start : tie.Start Inv-loop μ-loop = search needs in let a = start .args in (
       search needs,
       simp length-set (at-loop .loop .inv .1),
-      fill-turn (at-loop .loop .holder) (left (now (a .state)) (now (a .table)) (a .interties)) (now (a .row)) (at-loop .loop .inv .2) (c .left-of .ensures),
+      fill-turn (at-loop .loop .holder) (left (now (a .state)) (now (a .table)) (a .interties)) (now (a .row)) _ _ (at-loop .loop .inv .2) (c .left-of .ensures),
     )
 
 returns : tie.Need-returns Inv-loop μ-loop
 returns c =
     let start : tie.Start Inv-loop μ-loop = search needs in let a = start .args in
-    fill-end (a .holders) (c .before .loop .holder) (left (now (a .state)) (now (a .table)) (a .interties)) (now (a .row)) (c .before .loop .inv .2) (c .before .loop .inv .0) (omega arith)
+    fill-done (c .before .loop .holder) (a .holders) (left (now (a .state)) (now (a .table)) (a .interties)) (now (a .row)) _ (c .before .loop .inv .2) (c .before .loop .inv .0) (omega arith)
 
 pub left-unplaced-spec : {M : Type 1} → statement M
 left-unplaced-spec =

@@ -1,6 +1,6 @@
 -- `copy_row` meets its contract: after c turns the first c words are copied.
 use Rattle.base.proofs.Prelude.{ℕ, _+_, _-_, _≤_, _≡_, refl, arith, length, length-set, now, needs, at}
-use Rattle.closing.specs.Work.{fillFrom}
+use Rattle.closing.specs.Workers.Work.{fillFrom}
 use Rattle.closing.proofs.TableLaws.{fillFrom-none, fillFrom-turn, fillFrom-end}
 use Rattle.closing.proofs.buffer.copy_row.Statement.{statement}
 use Rattle.closing.proofs.buffer.copy_row.Tie as tie

@@ -29,4 +29,4 @@ returns c =
 
 pub write-grants-spec : {M : Type 1} → statement M
 write-grants-spec =
-    tie.close (tie.spec (λ c κs. search needs) (λ c κs. search needs) copy-rows-requires (λ c. search needs) returns)
+    tie.close (tie.spec (λ c κs. search needs) (λ c. search needs) (λ c κs. search needs) (λ c. search needs) copy-rows-requires (λ c. search needs) returns)

@@ -36,7 +36,7 @@ returns c =
 
 pub share-out-pending-spec : {M : Type 1} → statement M
 share-out-pending-spec =
-    tie.close (tie.spec (λ c κs. search needs) (λ c κs. search needs) (λ c. search needs) (λ c. search needs)
+    tie.close (tie.spec (λ c κs. search needs) (λ c. search needs) (λ c κs. search needs) (λ c. search needs) (λ c. search needs) (λ c. search needs)
     read-row-requires (λ c. search needs) (λ c. search needs) read-pairs-requires (λ c. search needs)
     (λ c κs. search needs) (λ c. search needs) (λ c. search needs) (λ c. search needs) (λ c κs. search needs)
     (λ c. search needs) returns)

@@ -1,7 +1,7 @@
 -- `read_row` meets its contract: after c turns the first c words are read.
 use Rattle.base.proofs.Prelude.{ℕ, _+_, _-_, _*_, _≤_, _≡_, refl, List, arith, length, length-set, now, needs, at}
 use Rattle.state.specs.Layout.{place}
-use Rattle.closing.specs.Work.{fillFrom}
+use Rattle.closing.specs.Workers.Work.{fillFrom}
 use Rattle.closing.proofs.TableLaws.{fillFrom-none, fillFrom-turn, fillFrom-end}
 use Rattle.closing.proofs.tables.read_row.Statement.{statement}
 use Rattle.closing.proofs.tables.read_row.Tie as tie

@@ -1,7 +1,6 @@
 -- `take_off` meets its contract: after c turns the first c numbers are lowered.
 use Rattle.base.proofs.Prelude.{ℕ, _+_, _-_, _≤_, _≡_, refl, sym, ap, List, arith, length, length-set, now, needs, at, fill}
-use Rattle.base.proofs.WordLaws.{fill-zero}
-use Rattle.state.proofs.BaseMore.{fill-place, fill-turn, fill-end}
+use Rattle.base.proofs.WordLaws.{fill-zero, fill-place, fill-turn, fill-done}
 use Rattle.closing.proofs.tables.take_off.Statement.{statement}
 use Rattle.closing.proofs.tables.take_off.Tie as tie
 
@@ -28,7 +27,7 @@ sub-row c =
     omega (
       arith,
       start .pre .2 (l .c) (in-loop .loop-test .taken),
-      fill-place (l .c) (word (now (start .args .table)) (start .args .from) (now (start .args .row))) (now (start .args .row)) (l .inv .2),
+      fill-place (l .c) (word (now (start .args .table)) (start .args .from) (now (start .args .row))) (now (start .args .row)) _ (l .inv .2),
     )
 
 loop-again : tie.Need-loop-again Inv-loop μ-loop
@@ -39,13 +38,13 @@ loop-again c =
     let f = word (now (a .table)) (a .from) (now (a .row)) in (
       search needs,
       simp length-set (l .inv .1),
-      fill-turn (l .c) f (now (a .row)) (l .inv .2) (ap (λ x. x - at (now (a .table)) (a .from + l .c)) (fill-place (l .c) f (now (a .row)) (l .inv .2))),
+      fill-turn (l .c) f (now (a .row)) _ _ (l .inv .2) (ap (λ x. x - at (now (a .table)) (a .from + l .c)) (fill-place (l .c) f (now (a .row)) _ (l .inv .2))),
     )
 
 returns : tie.Need-returns Inv-loop μ-loop
 returns c =
     let start : tie.Start Inv-loop μ-loop = search needs in let a = start .args in
-    fill-end (a .count) (c .before .loop .c) (word (now (a .table)) (a .from) (now (a .row))) (now (a .row)) (c .before .loop .inv .2) (c .before .loop .inv .0) (omega arith)
+    fill-done (c .before .loop .c) (a .count) (word (now (a .table)) (a .from) (now (a .row))) (now (a .row)) _ (c .before .loop .inv .2) (c .before .loop .inv .0) (omega arith)
 
 pub take-off-spec : {M : Type 1} → statement M
 take-off-spec =

@@ -1,8 +1,7 @@
 -- `sellers_load` meets its contract: after j turns the first j holders are looked at.
 use Rattle.base.proofs.Prelude.{ℕ, _+_, _-_, _*_, _≤_, _≡_, sym, List, arith, now, needs, sumTo}
 use Rattle.state.specs.Layout.{loadShareOf}
-use Rattle.state.proofs.BaseMore.{sum-turn, sum-end}
-use Rattle.base.proofs.SumLaws.{sumTo-zero}
+use Rattle.base.proofs.SumLaws.{sumTo-zero, sum-more, sum-done}
 use Rattle.closing.specs.Weight.{sellerBit}
 use Rattle.closing.proofs.weights.sellers_load.Statement.{statement}
 use Rattle.closing.proofs.weights.sellers_load.Tie as tie
@@ -34,13 +33,13 @@ loop-again c =
     let j = at-loop .loop .holder in (
       search needs,
       omega (arith, c .before .shared-slice-known2 .given (144 + j)),
-      sum-turn j (counted (now (a .state)) (a .sellers)) (at-loop .loop .inv .2) (c .load-if-seller .ensures .0),
+      sum-more j (counted (now (a .state)) (a .sellers)) _ _ (at-loop .loop .inv .2) (c .load-if-seller .ensures .0),
     )
 
 returns : tie.Need-returns Inv-loop μ-loop
 returns c =
     let start : tie.Start Inv-loop μ-loop = search needs in let a = start .args in
-    sum-end (a .holders) (c .before .loop .holder) (counted (now (a .state)) (a .sellers)) (c .before .loop .inv .2) (c .before .loop .inv .0) (omega arith)
+    sum-done (c .before .loop .holder) (a .holders) (counted (now (a .state)) (a .sellers)) _ (c .before .loop .inv .2) (c .before .loop .inv .0) (omega arith)
 
 pub sellers-load-spec : {M : Type 1} → statement M
 sellers-load-spec =

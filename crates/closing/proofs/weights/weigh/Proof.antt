@@ -1,7 +1,6 @@
 -- `weigh` meets its contract: after m turns the first m holders have their weights.
 use Rattle.base.proofs.Prelude.{_-_, _≤_, _≡_, refl, sym, ap, _∙_, arith, length, length-set, now, needs, fill}
-use Rattle.base.proofs.WordLaws.{fill-zero}
-use Rattle.state.proofs.BaseMore.{fill-turn}
+use Rattle.base.proofs.WordLaws.{fill-zero, fill-turn}
 use Rattle.state.proofs.OrderlyLaws.{refusal-none}
 use Rattle.closing.specs.Weight.{weightOf}
 use Rattle.closing.proofs.weights.weigh.Statement.{statement}
@@ -20,10 +19,10 @@ loop-holds c = (search needs, refl, sym (fill-zero _ _))
 slice-write-weights : tie.Need-slice-write-weights Inv-loop μ-loop
 slice-write-weights c =
     let start : tie.Start Inv-loop μ-loop = search needs in
-    let after-word : tie.After-word Inv-loop μ-loop = search needs in
+    let after-holder-count : tie.After-holder-count Inv-loop μ-loop = search needs in
     let at-loop : tie.At-loop Inv-loop μ-loop = search needs in
     let o = refusal-none _ (start .pre .0 .fit) .1 in
-    omega (arith, o .holders-most, after-word .word .ensures, at-loop .loop .inv .1, start .pre .1)
+    omega (arith, o .holders-most, after-holder-count .holder-count .ensures, at-loop .loop .inv .1, start .pre .1)
 
 loop-again : tie.Need-loop-again Inv-loop μ-loop
 loop-again c =
@@ -31,15 +30,15 @@ loop-again c =
     let start : tie.Start Inv-loop μ-loop = search needs in let a = start .args in (
       search needs,
       simp length-set (at-loop .loop .inv .1),
-      fill-turn (at-loop .loop .holder) (weightOf (now (a .state))) (now (a .weights)) (at-loop .loop .inv .2) (c .weight .ensures),
+      fill-turn (at-loop .loop .holder) (weightOf (now (a .state))) (now (a .weights)) _ _ (at-loop .loop .inv .2) (c .weight .ensures),
     )
 
 returns : tie.Need-returns Inv-loop μ-loop
 returns c =
-    let after-word : tie.After-word Inv-loop μ-loop = search needs in
+    let after-holder-count : tie.After-holder-count Inv-loop μ-loop = search needs in
     let start : tie.Start Inv-loop μ-loop = search needs in let a = start .args in
-    let end : c .before .loop .holder ≡ after-word .word .result = omega arith in
-    c .before .loop .inv .2 ∙ ap (λ n. fill n (weightOf (now (a .state))) (now (a .weights))) (end ∙ after-word .word .ensures)
+    let end : c .before .loop .holder ≡ after-holder-count .holder-count .result = omega arith in
+    c .before .loop .inv .2 ∙ ap (λ n. fill n (weightOf (now (a .state))) (now (a .weights))) (end ∙ after-holder-count .holder-count .ensures)
 
 pub weigh-spec : {M : Type 1} → statement M
 weigh-spec =

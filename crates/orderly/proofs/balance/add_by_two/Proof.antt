@@ -1,6 +1,6 @@
 -- `orderly::balance::add_by_two` meets its contract. The invariant: the holders passed are added.
 use Rattle.base.proofs.Prelude.{_-_, _*_, _≤_, arith, needs}
-use Rattle.orderly.specs.Check.{Added}
+use Rattle.orderly.specs.Workers.Check.{Added}
 use Rattle.orderly.proofs.BalanceLaws.{added-none, added-two, added-same}
 use Rattle.orderly.proofs.balance.add_by_two.Statement.{statement}
 use Rattle.orderly.proofs.balance.add_by_two.Tie as tie

@@ -1,7 +1,8 @@
 -- `orderly::balance::add_holder` meets its contract. The invariant: the sums of the interties passed are filled, and the bits of their pairs are together.
 use Rattle.base.proofs.Prelude.{ℕ, _+_, _-_, _%_, _^_, _≤_, _≡_, refl, arith, ltb, needs, allTo, at, fill}
-use Rattle.orderly.specs.Check.{pairKw, pairFits}
-use Rattle.state.proofs.BaseMore.{tests-end, fill-place, fill-turn, fill-end}
+use Rattle.base.proofs.SumLaws.{all-done}
+use Rattle.base.proofs.WordLaws.{fill-place, fill-turn, fill-done}
+use Rattle.orderly.specs.Workers.Check.{pairKw, pairFits}
 use Rattle.orderly.proofs.BalanceLaws.{bits-turn}
 use Rattle.orderly.proofs.balance.add_holder.Statement.{statement}
 use Rattle.orderly.proofs.balance.add_holder.Tie as tie
@@ -25,16 +26,16 @@ loop-again c =
     let start : tie.Start Inv-loop μ-loop = search needs in
     let after-pair-bits : tie.After-pair-bits Inv-loop μ-loop = search needs in
     let l = at-loop .loop in
-    let kept : at (l .sums) (l .intertie) ≡ at (start .args .sums .now) (l .intertie) = fill-place _ _ _ (l .inv .2) in
-    (omega arith, bits-turn _ _ (l .bits) (after-pair-bits .pair-bits .result) (l .inv .1) (after-pair-bits .pair-bits .ensures), fill-turn _ _ _ (l .inv .2) (cc (kept, c .before .pair-kw .ensures, c .wrapping-add-u32 .ensures)))
+    let kept : at (l .sums) (l .intertie) ≡ at (start .args .sums .now) (l .intertie) = fill-place _ _ _ _ (l .inv .2) in
+    (omega arith, bits-turn _ _ (l .bits) (after-pair-bits .pair-bits .result) (l .inv .1) (after-pair-bits .pair-bits .ensures), fill-turn _ _ _ _ _ (l .inv .2) (cc (kept, c .before .pair-kw .ensures, c .wrapping-add-u32 .ensures)))
 
 returns : tie.Need-returns Inv-loop μ-loop
 returns c =
     let l = c .before .loop in
-    (tests-end _ _ _ (l .inv .1) (omega arith) (omega arith), fill-end _ _ _ _ (l .inv .2) (omega arith) (omega arith))
+    (all-done _ _ _ _ (l .inv .1) (omega arith) (omega arith), fill-done _ _ _ _ _ (l .inv .2) (omega arith) (omega arith))
 
 pub add-holder-spec : {M : Type 1} → statement M
 add-holder-spec =
-    tie.close (tie.spec Inv-loop μ-loop (λ c κs. search needs) loop-holds (λ c κs. search needs) (λ c. omega arith)
+    tie.close (tie.spec Inv-loop μ-loop (λ c κs. search needs) (λ c. search needs) loop-holds (λ c κs. search needs) (λ c. omega arith)
     (λ c. omega arith) (λ c κs. search needs) (λ c κs. search needs) (λ c. omega arith) (λ c. omega arith)
     (λ c. omega arith) (λ c. omega arith) loop-again returns)

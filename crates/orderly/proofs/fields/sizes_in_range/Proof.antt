@@ -6,11 +6,11 @@ use Rattle.orderly.proofs.fields.sizes_in_range.Tie as tie
 
 returns : tie.Need-returns
 returns c =
-    let start : tie.Start = search needs in let after-word : tie.After-word = search needs in
+    let start : tie.Start = search needs in let after-intertie-count : tie.After-intertie-count = search needs in
     sizes-are (start .args .state .now)
-    (after-word .word .ensures)
-    (c .before .word2 .ensures)
-    (c .word3 .ensures)
+    (after-intertie-count .intertie-count .ensures)
+    (c .before .holder-count .ensures)
+    (c .stage .ensures)
 
 pub sizes-in-range-spec : {M : Type 1} → statement M
 sizes-in-range-spec =

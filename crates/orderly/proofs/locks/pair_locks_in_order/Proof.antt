@@ -1,7 +1,7 @@
 -- `orderly::locks::pair_locks_in_order` meets its contract. The invariant: the faults of the interties passed are counted.
 use Rattle.base.proofs.Prelude.{ℕ, _-_, _≤_, _≡_, arith, needs}
-use Rattle.orderly.specs.Check.{pairLockFits}
-use Rattle.state.proofs.BaseMore.{faultsTo, faults-zero, faults-turn, faults-turn-most, faults-end}
+use Rattle.base.proofs.TestLaws.{faultsTo, faults-zero, faults-turn, faults-turn-most, faults-end}
+use Rattle.orderly.specs.Workers.Check.{pairLockFits}
 use Rattle.orderly.proofs.locks.pair_locks_in_order.Statement.{statement}
 use Rattle.orderly.proofs.locks.pair_locks_in_order.Tie as tie
 
@@ -30,5 +30,5 @@ returns c = faults-end _ _ _ (c .before .loop .inv .1) (omega arith) (omega arit
 
 pub pair-locks-in-order-spec : {M : Type 1} → statement M
 pair-locks-in-order-spec =
-    tie.close (tie.spec Inv-loop μ-loop (λ c κs. search needs) loop-holds (λ c κs. search needs) add-faults
+    tie.close (tie.spec Inv-loop μ-loop (λ c κs. search needs) (λ c. search needs) loop-holds (λ c κs. search needs) add-faults
     (λ c. omega arith) (λ c. omega arith) loop-again returns)

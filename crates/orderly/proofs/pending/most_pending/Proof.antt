@@ -7,12 +7,12 @@ use Rattle.orderly.proofs.pending.most_pending.Tie as tie
 returns : tie.Need-returns
 returns c =
     let start : tie.Start = search needs in let a = start .args in
-    most-none (a .state .now) (a .holder) (c .before .word .ensures) (c .if1 .taken)
+    most-none (a .state .now) (a .holder) (c .before .stage .ensures) (c .if1 .taken)
 
 returns-2 : tie.Need-returns-2
 returns-2 c =
-    let after-word : tie.After-word = search needs in let start : tie.Start = search needs in let a = start .args in
-    most-unplaced (a .state .now) (a .holder) (after-word .word .ensures) (c .before .if1 .left) (c .row-word .ensures)
+    let after-stage : tie.After-stage = search needs in let start : tie.Start = search needs in let a = start .args in
+    most-unplaced (a .state .now) (a .holder) (after-stage .stage .ensures) (c .before .if1 .left) (c .row-word .ensures)
 
 pub most-pending-spec : {M : Type 1} → statement M
 most-pending-spec =

@@ -1,7 +1,8 @@
 -- `orderly::rows::row_is_clear` meets its contract. The invariant: the bits of the words passed are 0 where these words are.
 use Rattle.base.proofs.Prelude.{ℕ, _-_, _≤_, _≡_, refl, ap, _∙_, arith, leb, eqb, needs, allTo, at}
+use Rattle.base.proofs.TestLaws.{or-none}
+use Rattle.base.proofs.SumLaws.{all-more, all-done}
 use Rattle.state.specs.Layout.{place}
-use Rattle.state.proofs.BaseMore.{or-none, tests-turn, tests-end}
 use Rattle.orderly.proofs.rows.row_is_clear.Statement.{statement}
 use Rattle.orderly.proofs.rows.row_is_clear.Tie as tie
 
@@ -19,10 +20,10 @@ loop-holds c = (omega arith, refl)
 loop-again : tie.Need-loop-again Inv-loop μ-loop
 loop-again c =
     let at-loop : tie.At-loop Inv-loop μ-loop = search needs in
-    (omega arith, or-none (at-loop .loop .bits) (c .row-word .result) ∙ tests-turn _ _ {b = leb (c .row-word .result) 0} (at-loop .loop .inv .1) (ap (λ (w : ℕ). leb w 0) (c .row-word .ensures)))
+    (omega arith, or-none (at-loop .loop .bits) (c .row-word .result) ∙ all-more _ _ _ (leb (c .row-word .result) 0) (at-loop .loop .inv .1) (ap (λ (w : ℕ). leb w 0) (c .row-word .ensures)))
 
 returns : tie.Need-returns Inv-loop μ-loop
-returns c = tests-end _ _ _ (c .before .loop .inv .1) (omega arith) (omega arith)
+returns c = all-done _ _ _ _ (c .before .loop .inv .1) (omega arith) (omega arith)
 
 pub row-is-clear-spec : {M : Type 1} → statement M
 row-is-clear-spec =

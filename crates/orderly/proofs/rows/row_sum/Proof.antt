@@ -1,7 +1,7 @@
 -- `orderly::rows::row_sum` meets its contract. The invariant: the words passed are added, each below 2 ^ 32.
 use Rattle.base.proofs.Prelude.{ℕ, _-_, _*_, _≤_, _≡_, arith, needs, sumTo, at}
+use Rattle.base.proofs.SumLaws.{sum-more, sum-done}
 use Rattle.state.specs.Layout.{place}
-use Rattle.state.proofs.BaseMore.{sum-turn, sum-end}
 use Rattle.orderly.proofs.rows.row_sum.Statement.{statement}
 use Rattle.orderly.proofs.rows.row_sum.Tie as tie
 
@@ -19,10 +19,10 @@ loop-holds c = search needs
 loop-again : tie.Need-loop-again Inv-loop μ-loop
 loop-again c =
     let at-loop : tie.At-loop Inv-loop μ-loop = search needs in
-    (omega arith, omega arith, sum-turn _ _ (at-loop .loop .inv .2) (c .row-word .ensures))
+    (omega arith, omega arith, sum-more _ _ _ _ (at-loop .loop .inv .2) (c .row-word .ensures))
 
 returns : tie.Need-returns Inv-loop μ-loop
-returns c = sum-end _ _ _ (c .before .loop .inv .2) (c .before .loop .inv .0) (c .loop-test .left)
+returns c = sum-done _ _ _ _ (c .before .loop .inv .2) (c .before .loop .inv .0) (c .loop-test .left)
 
 pub row-sum-spec : {M : Type 1} → statement M
 row-sum-spec =

@@ -1,7 +1,7 @@
 -- `orderly::rows::row_within` meets its contract. The invariant: the faults of the words passed are counted.
 use Rattle.base.proofs.Prelude.{ℕ, _-_, _≤_, _≡_, arith, leb, needs, at}
+use Rattle.base.proofs.TestLaws.{faultsTo, faults-zero, faults-turn, faults-turn-most, faults-end}
 use Rattle.state.specs.Layout.{place}
-use Rattle.state.proofs.BaseMore.{faultsTo, faults-zero, faults-turn, faults-turn-most, faults-end}
 use Rattle.orderly.proofs.rows.row_within.Statement.{statement}
 use Rattle.orderly.proofs.rows.row_within.Tie as tie
 

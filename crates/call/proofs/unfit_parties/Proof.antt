@@ -1,7 +1,7 @@
 -- `unfit_parties` meets its contract.
 use Rattle.base.proofs.Prelude.{needs}
-use Rattle.trading.proofs.unfit_parties.Statement.{statement}
-use Rattle.trading.proofs.unfit_parties.Tie as tie
+use Rattle.call.proofs.unfit_parties.Statement.{statement}
+use Rattle.call.proofs.unfit_parties.Tie as tie
 
 returns : tie.Need-returns
 returns c = rw (c .before .no-holder .ensures, c .no-holder2 .ensures)

@@ -4,6 +4,8 @@ use mathlib.Core.Path.{_≡_}
 use mathlib.Core.List.{List}
 use lib.ListN.{length, set}
 use Rattle.base.specs.Words.{at}
+use Rattle.base.specs.Limits.{mostHolders, mostInterties, mostPairs, mostKw}
+use Rattle.base.specs.Stages.{secondRequestsStage}
 use Rattle.intertie_shares.specs.Pairs.{atPair}
 use Rattle.state.specs.Layout.{interties, holders, stageOf, unassignedOf, unplacedOf}
 use Rattle.state.specs.Orderly.{stateRefusal}
@@ -14,20 +16,20 @@ unfoldable pub fillFrom : ℕ → ℕ → (ℕ → ℕ) → List ℕ → List �
 fillFrom from zero f l = l
 fillFrom from (suc n) f l = set (fillFrom from n f l) (from + n) (f n)
 
--- what numbers 5 to 7 leave of a state
+-- a state that refusals 5 to 7 let pass
 pub record Closable (s : List ℕ) : Type 0 where
   pub fit : stateRefusal s ≡ 0
-  pub stage-most : stageOf s ≤ 3
+  pub stage-most : stageOf s ≤ secondRequestsStage
 
 -- the table of this closing's grants
 pub record Granted (s table : List ℕ) : Type 0 where
-  pub size : length table ≡ 1536
+  pub size : length table ≡ mostPairs
   pub pairs : (h i : ℕ) → h < holders s → i < interties s → atPair table h i ≡ closeGrant s h i
-  pub small : (h i : ℕ) → h < holders s → i < interties s → atPair table h i ≤ 20000000
+  pub small : (h i : ℕ) → h < holders s → i < interties s → atPair table h i ≤ mostKw
 
 -- the numbers that are written over two rows of the state
 pub record Written (s unassigned unplaced : List ℕ) : Type 0 where
-  pub unassigned-size : 48 ≤ length unassigned
+  pub unassigned-size : mostInterties ≤ length unassigned
   pub unassigned-is : (i : ℕ) → i < interties s → at unassigned i ≡ unassignedOf s i - grantedOn s i
-  pub unplaced-size : 32 ≤ length unplaced
+  pub unplaced-size : mostHolders ≤ length unplaced
   pub unplaced-is : (h : ℕ) → h < holders s → at unplaced h ≡ unplacedOf s h - grantedTo s h
