@@ -1,20 +1,22 @@
--- The call by cases: refused by numbers 1 to 7, refused by 14, or carried.
-use Prim.Native.Nat.{ℕ, _/_, _%_, _≤_, _<_}
+-- The call by cases: refused by 1 to 7, refused by 14, or carried.
+use Prim.Native.Nat.{ℕ, _≤_, _<_}
 use mathlib.Core.Path.{_≡_, refl, sym, ap, _∙_}
 use mathlib.Core.Bool.{Bool, true, false, _&&_, _||_, not}
 use mathlib.Core.Logic.{_≢_}
 use mathlib.Core.List.{List}
 use native.Mathlib.Omega.{arith}
 use lib.Dec.{eqb, ltb, leb}
-use lib.ListN.{length}
+use lib.ListN.{length, take}
 use borrow.Author.Tests.{ne-eqb, le-ltb, ltb-false, not-false}
 use Rattle.base.specs.Choice.{pick}
 use Rattle.base.specs.Sums.{allTo}
-use Rattle.base.specs.Words.{at, fill}
+use Rattle.base.specs.Words.{at}
 use Rattle.base.specs.Answers.{refused, granted}
 use Rattle.base.specs.declared.Answer.{Answer}
 use Rattle.base.proofs.ChoiceLaws.{or-left, or-right}
 use Rattle.sheet_records.specs.Sheet as Sheet
+use Rattle.sheet_records.specs.Sheet.{sizeOf}
+use Rattle.sheet_records.specs.Bytes.{sheetBytes, withSheet}
 use Rattle.sheet_records.specs.Refusal.{badLength, sheetRefusal}
 use Rattle.sheet_reading.proofs.SheetLaws.{standing, first-words}
 use Rattle.state.specs.Layout as Layout
@@ -23,12 +25,12 @@ use Rattle.state.proofs.OrderlyLaws.{Orderly, refusal-none}
 use Rattle.call.proofs.LadderLaws.{none-first, none-second}
 use Rattle.carrying.specs.Line.{Line}
 use Rattle.carrying.specs.Lines.{highest, nextLines}
-use Rattle.carrying.specs.NewSheet.{sizeOf, byteOf, newByte}
+use Rattle.carrying.specs.NewSheet.{newSheet}
 use Rattle.carrying.specs.Carry.{earlyRefusal, sizesDiffer, doesNotFit, carryRefusal, Carried, carried}
-use Rattle.carrying.specs.Draft.{Drafted, draftWord}
-use Rattle.carrying.proofs.FitLaws.{lines-fit, bytes-same, fit-same}
+use Rattle.carrying.specs.Workers.Draft.{Drafted}
+use Rattle.carrying.proofs.FitLaws.{lines-fit, keys-same, kws-same, fit-same}
 
--- what numbers 1 to 7 let pass
+-- what refusals 1 to 7 let pass
 module _ (sheet state : List ℕ) (e : earlyRefusal sheet state ≡ 0) where
   pub sheet-stands : sheetRefusal sheet ≡ 0
   unfolding earlyRefusal
@@ -127,12 +129,11 @@ module _ (sheet state output : List ℕ) where
             (or-left (ltb 1024 (length lines) || not ranks) (ltb (length output) (sizeOf (length lines))) (sym test-is ∙ f)))
 
         pub draft-written : (I : ℕ) (written : List ℕ) (r : Answer) → b ≡ false → ((i : ℕ) → at sheet i < 256) → I ≡ Layout.interties state →
-            written ≡ fill (sizeOf n) (λ p. byteOf (draftWord I H n keys kws (p / 4)) (p % 4)) output → r ≡ granted 0 0 →
+            written ≡ withSheet (sheetBytes I H (take n keys) (take n kws)) output → r ≡ granted 0 0 →
             (r ≡ carried sheet state output .answer) × (written ≡ carried sheet state output .output)
-        unfolding carried
+        unfolding carried newSheet
         draft-written I written r f bytes eI ew er =
-            let o = state-stands sheet state early in
-            let same : fill (sizeOf n) (λ p. byteOf (draftWord (Layout.interties state) (Layout.holders state) n keys kws (p / 4)) (p % 4)) output
-            ≡ fill (sizeOf (length lines)) (newByte (Layout.interties state) (Layout.holders state) lines) output =
-            bytes-same (Layout.holders state) lines (lines-fit state o sheet bytes) (low-ranks f) keys kws ranks n d (Layout.interties state) output in
-            rw (number-none (sym test-is ∙ f)) (er, ew ∙ (rw (eI, eH) same))
+            let fit = lines-fit state (state-stands sheet state early) sheet bytes in
+            let keyed = keys-same (Layout.holders state) lines fit (low-ranks f) keys kws ranks n d (draft-few f) in
+            let filled = kws-same (Layout.holders state) lines fit (low-ranks f) keys kws ranks n d (draft-few f) in
+            rw (number-none (sym test-is ∙ f)) (er, ew ∙ rw (eI, eH, keyed, filled) refl)

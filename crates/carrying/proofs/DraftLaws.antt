@@ -15,12 +15,12 @@ use Rattle.base.specs.Choice.{pick}
 use Rattle.base.specs.Words.{at}
 use Rattle.base.proofs.ChoiceLaws.{pick-true, pick-false}
 use Rattle.base.proofs.SumLaws.{below-suc}
-use Rattle.sheet_records.specs.Key.{holderOf}
+use Rattle.sheet_records.specs.Key.{holderOf, cutKey}
 use Rattle.sheet_records.specs.Sheet.{count, keyAt, kwAt}
 use Rattle.state.specs.Layout.{lockedOf, termOf}
 use Rattle.carrying.specs.Line.{Line, lineIn}
 use Rattle.carrying.specs.Lines.{goesOn, nextLine, keptOf, kept, rankFor, highest, lockLine, withLock}
-use Rattle.carrying.specs.Draft.{places, maskedKey, lineKey, Drafted, Bounded}
+use Rattle.carrying.specs.Workers.Draft.{places, lineKey, Drafted, Bounded}
 use Rattle.carrying.proofs.LineLaws.{length-more, line-before, line-last, highest-more, highest-none, rank-other, either-way, kept-more, kept-few, kept-low}
 
 -- no line yet
@@ -162,7 +162,7 @@ module _ (keys kws ranks state : List ℕ) (n h i : ℕ) (locked : ℕ) (e : loc
       (λ _. d)
 
   pub a-lock : (packed rank term : ℕ) → locked ≢ 0 → n < places → h < 64 →
-      term ≡ termOf state h i → rank ≡ at ranks h + 1 → packed ≡ maskedKey 6 h i rank term →
+      term ≡ termOf state h i → rank ≡ at ranks h + 1 → packed ≡ cutKey 6 h i rank term →
       (l : List Line) → Drafted keys kws ranks n l →
       Drafted (set keys n packed) (set kws n locked) (set ranks h rank) (n + 1) (withLock state h i l)
   a-lock packed rank term some room low et er ek l d =

@@ -1,32 +1,33 @@
--- The lines of next year's sheet fit the widths of a key, so the drafted words are its words.
+-- The lines of next year's sheet fit the widths of a key, so the drafted keys and quantities are theirs.
 use Prim.Native.Nat.{ℕ, zero, suc, _+_, _-_, _*_, _/_, _%_, _≤_, _<_}
-use mathlib.Core.Path.{_≡_, refl, ap, _∙_}
+use mathlib.Core.Path.{_≡_, refl, sym, ap, _∙_}
 use mathlib.Core.Bool.{Bool, true, false, _||_, not}
 use mathlib.Core.Logic.{_≢_, _⊎_, inl, inr, ⊎-elim}
-use mathlib.Core.List.{List, [], _∷_}
+use mathlib.Core.List.{List, [], _∷_, map}
 use native.Mathlib.Nat.{le-trans, le-max-left, le-max-right, not-suc-le-zero, le-of-suc-le-suc}
 use native.Mathlib.Omega.{arith}
 use lib.Dec.{eqb, ltb, leb}
-use lib.ListN.{length}
+use lib.ListN.{length, length-map, take, List·getD-map}
+use lib.Seq.{ext-getD, getD-take, length-take-le}
 use borrow.Author.Tests.{eq-eqb, eqb-false, ltb-true, ltb-false, leb-true}
 use Rattle.base.specs.Choice.{pick}
 use Rattle.base.specs.Sums.{allTo}
-use Rattle.base.specs.Words.{at, fill}
+use Rattle.base.specs.Words.{at}
 use Rattle.base.proofs.ChoiceLaws.{pick-by}
 use Rattle.base.proofs.SumLaws.{allTo-each, allTo-same}
-use Rattle.base.proofs.WordLaws.{fill-same}
 use Rattle.sheet_records.specs.Key.{yearsOf}
-use Rattle.sheet_records.specs.Sheet.{keyAt, kwAt}
+use Rattle.sheet_records.specs.Sheet.{sizeOf, keyAt, kwAt}
 use Rattle.sheet_records.proofs.ReadingLaws.{word-below}
 use Rattle.state.specs.Layout.{interties, holders, lockedOf}
 use Rattle.state.proofs.OrderlyLaws.{Orderly}
-use Rattle.carrying.specs.Line.{Line, keyOf, lineIn}
+use Rattle.carrying.specs.Line.{Line, keyOf, quantityOf, lineIn}
 use Rattle.carrying.specs.Lines.{yearless, nextLine, rankFor, highest, lockLine, nextLines}
-use Rattle.carrying.specs.NewSheet.{sizeOf, newWord, byteOf, newByte}
 use Rattle.carrying.specs.Carry.{doesNotFit}
-use Rattle.carrying.specs.Draft.{lineKey, Drafted, draftWord}
-use Rattle.carrying.proofs.KeyLaws.{unmasked}
-use Rattle.carrying.proofs.LineLaws.{AllLines, lines-all}
+use Rattle.carrying.specs.Workers.Draft.{places, lineKey, Drafted}
+use Rattle.sheet_records.specs.Bytes.{sheetBytes, withSheet, SheetWritten}
+use Rattle.sheet_records.proofs.KeyLaws.{uncut}
+use Rattle.sheet_records.proofs.BytesLaws.{written-whole}
+use Rattle.carrying.proofs.LineLaws.{AllLines, noLine, lines-all}
 
 -- a line within the widths; a rank that is not is one of holder 0 to H - 1
 pub record Fits (H : ℕ) (x : Line) : Type 0 where
@@ -66,6 +67,20 @@ module _ (s : List ℕ) (o : Orderly s) where
       lines-all (Fits (holders s)) s lock-fit sheet
       (λ k _ _. next-fit (holders s) (keyAt sheet k) (kwAt sheet k) (word-below sheet (12 + 4 * k) bytes))
 
+-- the first words of a table, word by word
+first-words : (table words : List ℕ) (n : ℕ) → n ≡ length words → n ≤ length table → ((j : ℕ) → j < n → at table j ≡ at words j) → take n table ≡ words
+first-words table words n e room each =
+    let size : length (take n table) ≡ n = length-take-le n table room in
+    ext-getD 0 (take n table) words (size ∙ e) (λ j b. let m : j < n = omega arith in getD-take n table j 0 m ∙ each j m)
+
+-- a draft that fits is written whole
+pub draft-whole : (I H n : ℕ) (keys kws l : List ℕ) → length keys ≡ places → length kws ≡ places → n ≤ 1024 → sizeOf n ≤ length l → (size : ℕ) (m : List ℕ) →
+    SheetWritten I H (take n keys) (take n kws) l size m → m ≡ withSheet (sheetBytes I H (take n keys) (take n kws)) l
+draft-whole I H n keys kws l ek eq few room size m w =
+    let one : length (take n keys) ≡ n = length-take-le n keys (omega arith) in
+    let two : length (take n kws) ≡ n = length-take-le n kws (omega arith) in
+    written-whole I H (take n keys) (take n kws) l (omega arith) (two ∙ sym one) (omega arith) size m w .1
+
 -- a New Use commitment's rank is at most its holder's highest
 own-rank : (x : Line) → x .kind ≡ 6 → rankFor (x .holder) x ≡ x .rank
 own-rank x e = rw (e, eq-eqb (x .holder) (x .holder) refl) refl
@@ -93,42 +108,21 @@ module _ (H : ℕ) (l : List Line) (fit : AllFit H l) (low : allTo H (λ h. leb 
   key-fits j b =
       let x : Line = lineIn l j in
       let f = fit j b in
-      unmasked (x .kind) (x .holder) (x .intertie) (x .rank) (x .years) (f .kind-low) (f .holder-low) (f .intertie-low) (rank-fits j b) (f .years-low)
+      uncut (x .kind) (x .holder) (x .intertie) (x .rank) (x .years) (f .kind-low) (f .holder-low) (f .intertie-low) (rank-fits j b) (f .years-low)
 
-  module _ (keys kws ranks : List ℕ) (n : ℕ) (d : Drafted keys kws ranks n l) (I : ℕ) where
-    -- a drafted word is the sheet's
-    word-same : (w : ℕ) → w < 3 + 2 * length l → draftWord I H n keys kws w ≡ newWord I H l w
-    unfolding draftWord newWord
-    word-same w b =
-        rw (d .counted)
-        (choose (eqb w 0) I I _ _ (λ _. refl) (λ no0.
-        choose (eqb w 1) H H _ _ (λ _. refl) (λ no1.
-        choose (eqb w 2) (length l) (length l) _ _ (λ _. refl) (λ no2.
-        let late : 3 ≤ w = past-three w (eqb-false w 0 no0) (eqb-false w 1 no1) (eqb-false w 2 no2) in
-        choose (ltb w (3 + length l)) (at keys (w - 3)) (keyOf (lineIn l (w - 3))) (at kws (w - (3 + length l))) (lineIn l (w - (3 + length l)) .kw)
-        (λ t.
-        let j : w - 3 < length l = omega (arith, ltb-true w (3 + length l) t) in
-        d .key-is (w - 3) (rw (d .counted) j) ∙ key-fits (w - 3) j)
-        (λ f.
-        let j : w - (3 + length l) < length l = omega (arith, ltb-false w (3 + length l) f) in
-        d .kw-is (w - (3 + length l)) (rw (d .counted) j))))))
-      where
-        choose : (c : Bool) (x x′ y y′ : ℕ) → (c ≡ true → x ≡ x′) → (c ≡ false → y ≡ y′) → pick c x y ≡ pick c x′ y′
-        choose true x x′ y y′ t f = t refl
-        choose false x x′ y y′ t f = f refl
+  -- the drafted keys and quantities are the lines'
+  module _ (keys kws ranks : List ℕ) (n : ℕ) (d : Drafted keys kws ranks n l) (few : n ≤ 1024) where
+    pub keys-same : take n keys ≡ map keyOf l
+    keys-same =
+        first-words keys (map keyOf l) n (d .counted ∙ sym (length-map l keyOf)) (omega (arith, d .key-places))
+        (λ j b. d .key-is j b ∙ key-fits j (rw (← d .counted) b) ∙ sym (List·getD-map keyOf l j noLine))
 
-        past-three : (w : ℕ) → w ≢ 0 → w ≢ 1 → w ≢ 2 → 3 ≤ w
-        past-three w a b c = omega arith
+    pub kws-same : take n kws ≡ map quantityOf l
+    kws-same =
+        first-words kws (map quantityOf l) n (d .counted ∙ sym (length-map l quantityOf)) (omega (arith, d .kw-places))
+        (λ j b. d .kw-is j b ∙ sym (List·getD-map quantityOf l j noLine))
 
-    -- and the written bytes are the sheet's
-    pub bytes-same : (output : List ℕ) →
-        fill (sizeOf n) (λ b. byteOf (draftWord I H n keys kws (b / 4)) (b % 4)) output ≡ fill (sizeOf (length l)) (newByte I H l) output
-    bytes-same output =
-        fill-same (sizeOf n) (λ b. byteOf (draftWord I H n keys kws (b / 4)) (b % 4)) (newByte I H l) output
-        (λ b m. ap (λ (w : ℕ). byteOf w (b % 4)) (word-same (b / 4) (omega (arith, d .counted))))
-        ∙ ap (λ (k : ℕ). fill (sizeOf k) (newByte I H l) output) (d .counted)
-
--- the draft's test of number 14 is the lines'
+-- the draft's test of refusal 14 is the lines'
 pub fit-same : (keys kws ranks : List ℕ) (n : ℕ) (l : List Line) → Drafted keys kws ranks n l → (H room : ℕ) → H ≤ 32 →
     (ltb 1024 n || not (allTo H (λ h. leb (at ranks h) 255)) || ltb room (sizeOf n)) ≡ doesNotFit H l room
 unfolding doesNotFit

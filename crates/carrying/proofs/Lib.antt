@@ -1,7 +1,6 @@
 pub mod KeyLaws
 pub mod LineLaws
 pub mod DraftLaws
-pub mod SpellLaws
 pub mod FitLaws
 pub mod CarryLaws
 pub mod LineSums

@@ -20,7 +20,7 @@ use Rattle.state.specs.Layout.{interties, holders, lockedOf}
 use Rattle.carrying.specs.Line.{Line, lineIn}
 use Rattle.carrying.specs.Lines.{goesOn, nextLine, keptOf, kept, rankFor, highest, lockLine, withLock, withLocksOf, withLocks, nextLines}
 
-abbrev noLine : Line
+abbrev pub noLine : Line
 noLine = record { kind = 0; holder = 0; intertie = 0; rank = 0; years = 0; kw = 0 }
 
 -- one line more

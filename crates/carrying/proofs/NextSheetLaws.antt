@@ -1,4 +1,4 @@
--- What carry writes is a sheet that no number refuses, and its records are the lines of next year's sheet.
+-- What carry writes is a sheet that is not refused, and its records are the lines of next year's sheet.
 use Prim.Native.Nat.{ℕ, _+_, _-_, _*_, _≤_, _<_}
 use mathlib.Core.Path.{_≡_, refl, sym, ap, _∙_}
 use mathlib.Core.Bool.{Bool, true, false, _&&_, _||_, not}
@@ -9,22 +9,21 @@ use lib.ListN.{length, drop}
 use borrow.Author.Tests.{eqb-true, leb-true, leb-false, ltb-false, le-leb, le-ltb, eq-eqb, ne-eqb, not-false}
 use Rattle.base.specs.Choice.{pick}
 use Rattle.base.specs.Sums.{allTo}
-use Rattle.base.specs.Words.{at, tab, fill}
+use Rattle.base.specs.Words.{at}
 use Rattle.base.proofs.ChoiceLaws.{and-left, and-right, and-both, or-left, or-right}
 use Rattle.base.proofs.SumLaws.{sumTo-le, allTo-each, allTo-all}
-use Rattle.base.proofs.WordLaws.{length-tab, at-tab, fill-same, fill-front}
-use Rattle.sheet_records.specs.Key.{kindOf, holderOf, intertieOf, rankOf, yearsOf}
+use Rattle.sheet_records.specs.Key.{kindOf, holderOf, intertieOf, rankOf, yearsOf, keyFrom}
 use Rattle.sheet_records.specs.Sheet as Sheet
-use Rattle.sheet_records.specs.Sheet.{count, keyAt, kwAt, sumOver, howMany, isLimit, isLoadShare, isNewUse, limit, outside, existing, existingOn}
+use Rattle.sheet_records.specs.Sheet.{sizeOf, count, keyAt, kwAt, sumOver, howMany, isLimit, isLoadShare, isNewUse, limit, outside, existing, existingOn}
 use Rattle.sheet_records.specs.Refusal.{badLength, badSizes, recordStands, recordsStand, oneLimitEach, oneLoadShareEach, noRankTwice, rulesHold, limitsHold, sheetRefusal}
 use Rattle.sheet_reading.proofs.SheetLaws as SheetLaws
 use Rattle.sheet_reading.proofs.SheetLaws.{Stands, standing}
 use Rattle.state.specs.Layout.{interties, holders}
 use Rattle.state.proofs.OrderlyLaws.{Orderly}
 use Rattle.call.proofs.LadderLaws.{none-first, none-second, not-whenever}
-use Rattle.carrying.specs.Line.{Line, keyFrom, keyOf, lineIn}
+use Rattle.carrying.specs.Line.{Line, keyOf, lineIn}
 use Rattle.carrying.specs.Lines.{kept, highest, nextLines}
-use Rattle.carrying.specs.NewSheet.{sizeOf, newByte, newSheet}
+use Rattle.carrying.specs.NewSheet.{newSheet}
 use Rattle.carrying.specs.Carry.{earlyRefusal, sizesDiffer, doesNotFit, carryRefusal, carried}
 use Rattle.carrying.proofs.FitLaws.{lines-fit, rank-fits}
 use Rattle.carrying.proofs.LineSums.{sumIn, kept-same, kept-most, locks-add}
@@ -249,7 +248,7 @@ module _ (sheet state output : List ℕ) (bytes : (i : ℕ) → at sheet i < 256
       rw (by-lines (λ k h′ i r′. eqb k 6 && eqb h′ h && eqb r′ r) (λ q. 1))
       (lines-once state sheet (λ h r b c. old-rules .one-rank h r (rw (same-sizes .1) b) c) h r b c)
 
-  -- number 1
+  -- refusal 1
   new-length-good : badLength new ≡ false
   unfolding badLength
   new-length-good =
@@ -262,7 +261,7 @@ module _ (sheet state output : List ℕ) (bytes : (i : ℕ) → at sheet i < 256
         eq-eqb (sizeOf (length lines)) (12 + 8 * length lines) refl,
       ) refl
 
-  -- number 2
+  -- refusal 2
   new-sizes-good : badSizes new ≡ false
   unfolding badSizes
   new-sizes-good =
@@ -275,7 +274,7 @@ module _ (sheet state output : List ℕ) (bytes : (i : ℕ) → at sheet i < 256
         le-leb H 32 (order .holders-most),
       ) refl
 
-  -- number 3
+  -- refusal 3
   new-rules-hold : rulesHold new ≡ true
   unfolding rulesHold recordsStand oneLimitEach oneLoadShareEach noRankTwice
   new-rules-hold =
@@ -299,7 +298,7 @@ module _ (sheet state output : List ℕ) (bytes : (i : ℕ) → at sheet i < 256
       allTo-all 256 (λ r. leb (howMany new (isNewUse h r)) 1)
       (λ r c. le-leb (howMany new (isNewUse h r)) 1 (rank-once h r (rw (← next-holders) b) c))))
 
-  -- number 4
+  -- refusal 4
   new-limits-hold : limitsHold new ≡ true
   unfolding limitsHold
   new-limits-hold =
@@ -308,20 +307,12 @@ module _ (sheet state output : List ℕ) (bytes : (i : ℕ) → at sheet i < 256
       le-leb (outside new i + existingOn new i) (limit new i)
       (omega (arith, limit-same i, outside-same i, existing-on-most i, old .within-limit i (rw (same-sizes .0, ← next-interties) b))))
 
-  -- no number refuses the sheet that is written
+  -- nothing refuses the sheet that is written
   pub next-sheet-stands : sheetRefusal new ≡ 0
   unfolding sheetRefusal
   next-sheet-stands = rw (new-length-good, new-sizes-good, new-rules-hold, new-limits-hold) refl
 
   -- it is what stands in the first bytes of the output, and the later bytes are as they were
   pub carried-sheet : carried sheet state output .output ≡ new ++ drop (sizeOf (length lines)) output
-  unfolding carried newSheet
-  carried-sheet =
-      let n : ℕ = sizeOf (length lines) in
-      let f : ℕ → ℕ = newByte I H lines in
-      let size : length (tab n f) ≡ n = length-tab n f in
-      rw e
-      (fill-same n f (at (tab n f)) output (λ b c. sym (at-tab n f b c))
-      ∙ ap (λ (k : ℕ). fill k (at (tab n f)) output) (sym size)
-      ∙ fill-front (tab n f) output (rw size (fits .2))
-      ∙ ap (λ (k : ℕ). tab n f ++ drop k output) size)
+  unfolding carried
+  carried-sheet = rw e (ap (λ (k : ℕ). new ++ drop k output) (new-length I H lines))

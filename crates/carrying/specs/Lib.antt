@@ -2,4 +2,4 @@ pub mod Line
 pub mod Lines
 pub mod NewSheet
 pub mod Carry
-pub mod Draft
+pub mod Workers

@@ -1,7 +1,8 @@
--- A record of a sheet by its fields, and its key, the sum of their products.
-use Prim.Native.Nat.{ℕ, _+_, _*_}
+-- A record of a sheet by its fields and its kilowatts.
+use Prim.Native.Nat.{ℕ}
 use mathlib.Core.List.{List}
 use lib.ListN.{getD}
+use Rattle.sheet_records.specs.Key.{keyFrom}
 
 pub record Line : Type 0 where
   pub kind : ℕ
@@ -11,11 +12,13 @@ pub record Line : Type 0 where
   pub years : ℕ
   pub kw : ℕ
 
-abbrev pub keyFrom : ℕ → ℕ → ℕ → ℕ → ℕ → ℕ
-keyFrom kind holder intertie rank years = kind + 16 * holder + 1024 * intertie + 65_536 * rank + 16_777_216 * years
-
+-- its key
 abbrev pub keyOf : Line → ℕ
 keyOf l = keyFrom (l .kind) (l .holder) (l .intertie) (l .rank) (l .years)
+
+-- its quantity
+abbrev pub quantityOf : Line → ℕ
+quantityOf l = l .kw
 
 -- line j of a list; past the end a line of zeros
 abbrev pub lineIn : List Line → ℕ → Line

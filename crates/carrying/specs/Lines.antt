@@ -4,6 +4,7 @@ use mathlib.Core.Bool.{Bool, _&&_, _||_}
 use mathlib.Core.List.{List, [], _∷_, _++_}
 use lib.Dec.{leb, ltb, eqb}
 use Rattle.base.specs.Choice.{pick}
+use Rattle.base.specs.Kinds.{loadShareKind, newUseKind}
 use Rattle.sheet_records.specs.Key.{kindOf, holderOf, intertieOf, rankOf, yearsOf}
 use Rattle.sheet_records.specs.Sheet.{count, keyAt, kwAt}
 use Rattle.state.specs.Layout.{interties, holders, lockedOf, termOf}
@@ -11,16 +12,17 @@ use Rattle.carrying.specs.Line.{Line}
 
 -- kinds 1, 2 and 3, which have no years
 abbrev pub yearless : ℕ → Bool
-yearless key = leb (kindOf key) 3
+yearless key = leb (kindOf key) loadShareKind
 
 -- old records go on: kinds 1, 2, 3; kinds 4, 5, 6 with years 2 or more
 abbrev pub goesOn : ℕ → Bool
 goesOn key = yearless key || leb 2 (yearsOf key)
 
--- kinds 1, 2, 3 as they were; kinds 4, 5, 6 with one year less
+-- its years: kinds 1, 2, 3 as they were; kinds 4, 5, 6 with one year less
 abbrev pub nextYears : ℕ → ℕ
 nextYears key = pick (yearless key) (yearsOf key) (yearsOf key - 1)
 
+-- an old record as it goes on
 abbrev pub nextLine : ℕ → ℕ → Line
 nextLine key quantity =
     record {
@@ -43,7 +45,7 @@ kept sheet (suc k) = kept sheet k ++ keptOf (keyAt sheet k) (kwAt sheet k)
 
 -- the rank that a line has among holder h's New Use commitments, 0 where it is none of them
 abbrev pub rankFor : ℕ → Line → ℕ
-rankFor h l = pick (eqb (l .kind) 6 && eqb (l .holder) h) (l .rank) 0
+rankFor h l = pick (eqb (l .kind) newUseKind && eqb (l .holder) h) (l .rank) 0
 
 -- holder h's highest rank in a list of lines, 0 if none
 unfoldable pub highest : ℕ → List Line → ℕ
@@ -54,7 +56,7 @@ highest h (x ∷ l) = max (rankFor h x) (highest h l)
 abbrev pub lockLine : List ℕ → ℕ → ℕ → List Line → Line
 lockLine state h i written =
     record {
-      kind = 6;
+      kind = newUseKind;
       holder = h;
       intertie = i;
       rank = highest h written + 1;

@@ -1,26 +1,15 @@
-// The key of a line, its fields put together by shifts and masks: 4 bits of kind, 6 of holder, 6 of
-// intertie, 8 of rank, 8 of years.
+// What becomes of a key in the next year.
 ghost use mathlib.Core.Path.{_≡_};
 ghost use Rattle.carrying.specs.Lines.{yearless, goesOn, nextYears, nextLine};
-ghost use Rattle.carrying.specs.Draft.{maskedKey, lineKey};
+ghost use Rattle.carrying.specs.Workers.Draft.{lineKey};
+use base::kinds;
 use sheet_records::key;
-
-// A key from its fields, each cut to its width.
-pub fn pack(kind: u32, holder: u32, intertie: u32, rank: u32, years: u32) -> u32
-    ensures { λ r. ⌜ r ≡ maskedKey kind holder intertie rank years ⌝ }
-{
-    (kind & 15)
-        | ((holder & 63) << 4)
-        | ((intertie & 63) << 10)
-        | ((rank & 255) << 16)
-        | ((years & 255) << 24)
-}
 
 // Whether a key is of kind 1, 2 or 3, which have no years.
 fn yearless(key: u32) -> bool
     ensures { λ r. ⌜ r ≡ yearless key ⌝ }
 {
-    key::kind(key) <= 3
+    key::kind(key) <= kinds::LOAD_SHARE
 }
 
 // Whether a record goes on into the next year.
@@ -52,5 +41,5 @@ pub(crate) fn next_key(key: u32) -> u32
     let holder = key::holder(key);
     let intertie = key::intertie(key);
     let rank = key::rank(key);
-    pack(kind, holder, intertie, rank, next_years(key))
+    key::pack(kind, holder, intertie, rank, next_years(key))
 }

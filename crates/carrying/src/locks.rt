@@ -3,19 +3,19 @@ ghost use mathlib.Core.Path.{_≡_};
 ghost use mathlib.Core.List.{List};
 ghost use Prim.Native.Nat.{ℕ, _+_, _*_, _≤_, _<_};
 ghost use lib.Dec.{leb};
+ghost use Rattle.base.specs.Limits.{mostHolders, mostInterties, mostRecords, mostRank};
 ghost use Rattle.base.specs.Sums.{allTo};
 ghost use Rattle.base.specs.Words.{at};
 ghost use Rattle.state.specs.Layout.{interties, holders};
 ghost use Rattle.carrying.specs.Line.{Line};
 ghost use Rattle.carrying.specs.Lines.{withLock, withLocksOf, withLocks};
-ghost use Rattle.carrying.specs.Draft.{Drafted, Bounded};
-use crate::key;
-use crate::records::HOLDERS;
+ghost use Rattle.carrying.specs.Workers.Draft.{places, Drafted, Bounded};
 use crate::records::PLACES;
+use base::kinds;
+use base::limits::MOST_RANK;
+use sheet_records::key;
+use sheet_records::key::HOLDERS;
 use state::layout;
-
-// A New Use commitment.
-const NEW_USE: u32 = 6;
 
 // Drafts the lock of a pair at a place if it has one, and gives the place after it.
 fn add_lock(
@@ -27,8 +27,8 @@ fn add_lock(
     kws: &mut [u32; PLACES],
     ranks: &mut [u32; HOLDERS],
 ) -> usize
-    requires { ⌜ (holder < 32) × (intertie < 48) × Bounded (now ranks) place (1024 + 48 * holder + intertie) ⌝ }
-    ensures { λ r. ⌜ Bounded (now (ranks .exit)) r (1024 + 48 * holder + intertie + 1)
+    requires { ⌜ (holder < mostHolders) × (intertie < mostInterties) × Bounded (now ranks) place (mostRecords + mostInterties * holder + intertie) ⌝ }
+    ensures { λ r. ⌜ Bounded (now (ranks .exit)) r (mostRecords + mostInterties * holder + intertie + 1)
         × ((l : List Line) → Drafted (now (keys .entry)) (now (kws .entry)) (now (ranks .entry)) place l
         → Drafted (now (keys .exit)) (now (kws .exit)) (now (ranks .exit)) r (withLock (now (state .entry)) holder intertie l)) ⌝ }
 {
@@ -38,7 +38,7 @@ fn add_lock(
     }
     let term = state::pair_word(state, layout::TERM, holder, intertie);
     let rank = ranks[holder as usize] + 1;
-    keys[place] = key::pack(NEW_USE, holder, intertie, rank, term);
+    keys[place] = key::pack(kinds::NEW_USE_COMMITMENT, holder, intertie, rank, term);
     kws[place] = locked;
     ranks[holder as usize] = rank;
     place + 1
@@ -53,8 +53,8 @@ fn add_holder_locks(
     kws: &mut [u32; PLACES],
     ranks: &mut [u32; HOLDERS],
 ) -> usize
-    requires { ⌜ (holder < 32) × (interties (now state) ≤ 48) × Bounded (now ranks) place (1024 + 48 * holder) ⌝ }
-    ensures { λ r. ⌜ Bounded (now (ranks .exit)) r (1024 + 48 * (holder + 1))
+    requires { ⌜ (holder < mostHolders) × (interties (now state) ≤ mostInterties) × Bounded (now ranks) place (mostRecords + mostInterties * holder) ⌝ }
+    ensures { λ r. ⌜ Bounded (now (ranks .exit)) r (mostRecords + mostInterties * (holder + 1))
         × ((l : List Line) → Drafted (now (keys .entry)) (now (kws .entry)) (now (ranks .entry)) place l
         → Drafted (now (keys .exit)) (now (kws .exit)) (now (ranks .exit)) r
         (withLocksOf (now (state .entry)) holder (interties (now (state .entry))) l)) ⌝ }
@@ -77,8 +77,8 @@ pub(crate) fn add_locks(
     kws: &mut [u32; PLACES],
     ranks: &mut [u32; HOLDERS],
 ) -> usize
-    requires { ⌜ (interties (now state) ≤ 48) × (holders (now state) ≤ 32) × Bounded (now ranks) place 1024 ⌝ }
-    ensures { λ r. ⌜ (r ≤ 2560)
+    requires { ⌜ (interties (now state) ≤ mostInterties) × (holders (now state) ≤ mostHolders) × Bounded (now ranks) place mostRecords ⌝ }
+    ensures { λ r. ⌜ (r ≤ places)
         × ((l : List Line) → Drafted (now (keys .entry)) (now (kws .entry)) (now (ranks .entry)) place l
         → Drafted (now (keys .exit)) (now (kws .exit)) (now (ranks .exit)) r
         (withLocks (now (state .entry)) (holders (now (state .entry))) l)) ⌝ }
@@ -95,13 +95,13 @@ pub(crate) fn add_locks(
 
 // Whether no holder's rank is over 255.
 pub(crate) fn ranks_fit(ranks: &[u32; HOLDERS], holders: usize) -> bool
-    requires { ⌜ holders ≤ 32 ⌝ }
-    ensures { λ r. ⌜ r ≡ allTo holders (λ (h : ℕ). leb (at (now (ranks .entry)) h) 255) ⌝ }
+    requires { ⌜ holders ≤ mostHolders ⌝ }
+    ensures { λ r. ⌜ r ≡ allTo holders (λ (h : ℕ). leb (at (now (ranks .entry)) h) mostRank) ⌝ }
 {
     let mut fit = true;
     let mut holder = 0;
     while holder < holders {
-        fit = fit & (ranks[holder] <= 255);
+        fit = fit & (ranks[holder] <= MOST_RANK);
         holder += 1;
     }
     fit

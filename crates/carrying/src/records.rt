@@ -10,24 +10,24 @@ ghost use Rattle.sheet_records.specs.Refusal.{badLength};
 ghost use Rattle.sheet_records.specs.Key.{holderOf};
 ghost use Rattle.carrying.specs.Line.{Line};
 ghost use Rattle.carrying.specs.Lines.{nextLine, keptOf, kept, rankFor};
-ghost use Rattle.carrying.specs.Draft.{places, Drafted};
+ghost use Rattle.carrying.specs.Workers.Draft.{places, Drafted};
 use crate::key;
+use base::kinds;
+use base::limits;
 use sheet_records::cursor::Cursor;
 use sheet_records::cursor::Read;
+use sheet_records::key::HOLDERS;
 use sheet_records::reader;
 use sheet_records::words;
 
-// The places of a draft: 1,024 old records and a lock for each of 32 · 48 pairs.
-pub(crate) const PLACES: usize = 2560;
-
-// The holders that a key can name.
-pub(crate) const HOLDERS: usize = 64;
+// The places of a draft: those of 1,024 old records, and of a lock for each pair.
+pub(crate) const PLACES: usize = limits::MOST_RECORDS + limits::MOST_PAIRS;
 
 // The higher of a rank and that of a New Use commitment.
 fn raised(rank: u32, key: u32) -> u32
     ensures { λ r. ⌜ r ≡ max rank (rankFor (holderOf key) (nextLine key 0)) ⌝ }
 {
-    if sheet_records::key::kind(key) != 6 {
+    if sheet_records::key::kind(key) != kinds::NEW_USE_COMMITMENT {
         return rank;
     }
     let other = sheet_records::key::rank(key);
@@ -81,7 +81,7 @@ fn keep_record(
     place_after(on, place)
 }
 
-// Drafts what goes on of a sheet that number 1 lets pass, and gives the number of lines.
+// Drafts what goes on of a sheet that refusal 1 lets pass, and gives the number of lines.
 pub(crate) fn keep_records(
     sheet: &[u8],
     keys: &mut [u32; PLACES],

@@ -70,6 +70,10 @@ sheet-stored I H n keys kws l a b d e m en ea eb ed ee em =
     ∙ ap (λ (k : ℕ). sets l 0 (wordBytes I ++ wordBytes H ++ wordBytes k ++ bytesOf keys ++ bytesOf kws)) en
     ∙ ap (λ (t : List ℕ). sets l 0 (wordBytes I ++ (wordBytes H ++ (wordBytes (length keys) ++ t)))) (sym (bytes-append keys kws))
 
+pub sheet-length : (I H : ℕ) (keys kws : List ℕ) → length kws ≡ length keys → length (sheetBytes I H keys kws) ≡ sizeOf (length keys)
+unfolding sheetBytes
+sheet-length I H keys kws even = omega (arith, length-bytes (I ∷ H ∷ length keys ∷ keys ++ kws), length-append keys kws)
+
 -- what writing leaves: nothing for each of three reasons, or the sheet
 module _ (I H : ℕ) (keys kws l : List ℕ) where
   pub too-many : 1024 < length keys → SheetWritten I H keys kws l 0 l
@@ -90,10 +94,6 @@ module _ (I H : ℕ) (keys kws l : List ℕ) where
           memory = rw (le-leb (length keys) 1024 few, eq-eqb (length kws) (length keys) even, lt-leb (sizeOf (length keys)) (length l) short) refl;
         }
 
-    pub sheet-length : length (sheetBytes I H keys kws) ≡ sizeOf (length keys)
-    unfolding sheetBytes
-    sheet-length = omega (arith, length-bytes (I ∷ H ∷ length keys ∷ keys ++ kws), length-append keys kws)
-
     module _ (room : sizeOf (length keys) ≤ length l) where
       pub sheet-written : (size : ℕ) (m : List ℕ) → size ≡ sizeOf (length keys) → m ≡ sets l 0 (sheetBytes I H keys kws) → SheetWritten I H keys kws l size m
       sheet-written size m es em =
@@ -102,7 +102,7 @@ module _ (I H : ℕ) (keys kws l : List ℕ) where
             memory =
                 rw (le-leb (length keys) 1024 few, eq-eqb (length kws) (length keys) even, le-leb (sizeOf (length keys)) (length l) room)
                 (let none : 0 + length (sheetBytes I H keys kws) ≡ length (sheetBytes I H keys kws) = omega arith in
-                em ∙ sets-eq (sheetBytes I H keys kws) l 0 (omega (arith, sheet-length)) ∙ ap (λ (n : ℕ). sheetBytes I H keys kws ++ drop n l) none);
+                em ∙ sets-eq (sheetBytes I H keys kws) l 0 (omega (arith, sheet-length I H keys kws even)) ∙ ap (λ (n : ℕ). sheetBytes I H keys kws ++ drop n l) none);
           }
 
       -- a sheet that fits is written

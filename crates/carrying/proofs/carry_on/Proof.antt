@@ -18,11 +18,13 @@ returns c =
     answers-refused (now (a .sheet)) (now (a .state)) (now (a .output)) 14 (omega arith)
     (draft-unfit (now (a .sheet)) (now (a .state)) (now (a .output)) (start .pre .0) (start .pre .1) _ _ _ _ (after-draft .draft .ensures .1) _ (after-word2 .word2 .ensures) _ (after-does-not-fit .does-not-fit .ensures) (c .before .if1 .taken)) _ (c .refused .ensures)
 
-write-sheet-requires : tie.Need-write-sheet-requires
-write-sheet-requires c κs =
+write-draft-requires : tie.Need-write-draft-requires
+write-draft-requires c κs =
     let after-draft : tie.After-draft = search needs in let after-word2 : tie.After-word2 = search needs in
     let after-does-not-fit : tie.After-does-not-fit = search needs in let else1 : tie.Else1 = search needs in
     let start : tie.Start = search needs in let a = start .args in (
+      after-draft .draft .ensures .1 .key-places,
+      after-draft .draft .ensures .1 .kw-places,
       draft-few (now (a .sheet)) (now (a .state)) (now (a .output)) (start .pre .0) (start .pre .1) _ _ _ _ (after-draft .draft .ensures .1) _ (after-word2 .word2 .ensures) _ (after-does-not-fit .does-not-fit .ensures) (else1 .if1 .left),
       draft-room (now (a .sheet)) (now (a .state)) (now (a .output)) (start .pre .0) (start .pre .1) _ _ _ _ (after-draft .draft .ensures .1) _ (after-word2 .word2 .ensures) _ (after-does-not-fit .does-not-fit .ensures) (else1 .if1 .left),
     )
@@ -36,10 +38,10 @@ returns-2 c =
     draft-written (now (a .sheet)) (now (a .state)) (now (a .output)) (p .0) (p .1) _ _ _ _ (the tie.After-draft (search needs) .draft .ensures .1)
     _ (the tie.After-word2 (search needs) .word2 .ensures) _ (the tie.After-does-not-fit (search needs) .does-not-fit .ensures) _ _ _
     (the tie.Else1 (search needs) .if1 .left) (λ i. the tie.After-shared-slice-known (search needs) .shared-slice-known .given i .fits)
-    (the tie.After-word (search needs) .word .ensures) (the tie.After-write-sheet (search needs) .write-sheet .ensures) (c .granted .ensures)
+    (the tie.After-word (search needs) .word .ensures) (the tie.After-write-draft (search needs) .write-draft .ensures) (c .granted .ensures)
 
 pub carry-on-spec : {M : Type 1} → statement M
 carry-on-spec =
     tie.close (tie.spec (λ c κs. search needs) (λ c κs. search needs) (λ c κs. search needs) (λ c. search needs)
-    does-not-fit-requires (λ c κs. search needs) returns write-sheet-requires (λ c κs. search needs)
+    does-not-fit-requires (λ c κs. search needs) returns (λ c. search needs) (λ c. search needs) write-draft-requires (λ c κs. search needs)
     (λ c. search needs) returns-2)

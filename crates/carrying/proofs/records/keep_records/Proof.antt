@@ -6,7 +6,7 @@ use Rattle.sheet_records.specs.Reading.{readAt, readOf}
 use Rattle.sheet_records.proofs.RefusalLaws.{whole, counted}
 use Rattle.sheet_records.proofs.ReadingLaws.{RecordRead, of-whole, record-read, at-end}
 use Rattle.carrying.specs.Lines.{kept}
-use Rattle.carrying.specs.Draft.{Drafted}
+use Rattle.carrying.specs.Workers.Draft.{Drafted}
 use Rattle.carrying.proofs.LineLaws.{kept-none}
 use Rattle.carrying.proofs.DraftLaws.{drafted-none, drafted-as, kept-room, kept-next}
 use Rattle.carrying.proofs.records.keep_records.Statement.{statement}
