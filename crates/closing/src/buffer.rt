@@ -24,7 +24,8 @@ fn copy_row(table: &[u64], from: usize, count: usize, grants: &mut [u32], to: us
 
 // Copies the first numbers of each holder's row, one row after the other.
 fn copy_rows(table: &[u64], holders: usize, interties: usize, grants: &mut [u32])
-    requires { ⌜ (holders ≤ mostHolders) × (interties ≤ mostInterties) × (mostPairs ≤ length (now table)) × (grantsWords ≤ length (now grants))
+    requires { ⌜ (holders ≤ mostHolders) × (interties ≤ mostInterties) × (mostPairs ≤ length (now table))
+        × (grantsWords ≤ length (now grants))
         × ((h i : ℕ) → h < holders → i < interties → atPair (now table) h i ≤ mostKw) ⌝ }
     ensures { λ _. ⌜ now (grants .exit)
         ≡ fill (holders * interties) (λ (p : ℕ). atPair (now (table .entry)) (p / interties) (p % interties)) (now (grants .entry)) ⌝ }

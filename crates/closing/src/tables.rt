@@ -48,7 +48,8 @@ pub(super) fn read_pairs(
 fn take_off(table: &[u64], from: usize, count: usize, row: &mut [u64])
     requires { ⌜ (from + count ≤ length (now table)) × (count ≤ length (now row))
         × ((c : ℕ) → c < count → at (now table) (from + c) ≤ at (now row) c) ⌝ }
-    ensures { λ _. ⌜ now (row .exit) ≡ fill count (λ (c : ℕ). at (now (row .entry)) c - at (now (table .entry)) (from + c)) (now (row .entry)) ⌝ }
+    ensures { λ _. let before = now (row .entry) in
+        ⌜ now (row .exit) ≡ fill count (λ (c : ℕ). at before c - at (now (table .entry)) (from + c)) before ⌝ }
 {
     let mut c = 0;
     while c < count {
@@ -59,7 +60,8 @@ fn take_off(table: &[u64], from: usize, count: usize, row: &mut [u64])
 
 // Takes what the holders have in a table off a row of the interties, which has as much.
 pub(super) fn take_off_holders(table: &[u64], holders: usize, interties: usize, row: &mut [u64])
-    requires { ⌜ (holders ≤ mostHolders) × (interties ≤ mostInterties) × (mostPairs ≤ length (now table)) × (interties ≤ length (now row))
+    requires { ⌜ (holders ≤ mostHolders) × (interties ≤ mostInterties) × (mostPairs ≤ length (now table))
+        × (interties ≤ length (now row))
         × ((i : ℕ) → i < interties → sumTo holders (λ (h : ℕ). atPair (now table) h i) ≤ at (now row) i) ⌝ }
     ensures { λ _. ⌜ ((i : ℕ) → i < interties →
         at (now (row .exit)) i ≡ at (now (row .entry)) i - sumTo holders (λ (h : ℕ). atPair (now (table .entry)) h i)) ⌝ }

@@ -17,7 +17,8 @@ ghost use Rattle.holding.specs.Lock.{pastThreeQuarters, lockRefusal, loc
 
 // Moves placed kW above locked from a holder to another on an intertie, in stages 3 and 4.
 pub fn move_kw(state: &mut [u32], giver: u32, taker: u32, intertie: u32, kw: u64) -> Answer
-    ensures { λ r. let done = move (now (state .entry)) giver taker intertie kw in ⌜ (r ≡ done .answer) × (now (state .exit) ≡ done .state) ⌝ }
+    ensures { λ r. let done = move (now (state .entry)) giver taker intertie kw in
+        ⌜ (r ≡ done .answer) × (now (state .exit) ≡ done .state) ⌝ }
 {
     let refusal = move_refusal(state, giver, taker, intertie, kw);
     if refusal != 0 {
@@ -33,7 +34,8 @@ pub fn move_kw(state: &mut [u32], giver: u32, taker: u32, intertie: u32, kw: u64
 
 // Locks placed kW of a pair for a term of 1 to 30 years, in stage 4.
 pub fn lock(state: &mut [u32], holder: u32, intertie: u32, kw: u64, term: u32) -> Answer
-    ensures { λ r. let done = lock (now (state .entry)) holder intertie kw term in ⌜ (r ≡ done .answer) × (now (state .exit) ≡ done .state) ⌝ }
+    ensures { λ r. let done = lock (now (state .entry)) holder intertie kw term in
+        ⌜ (r ≡ done .answer) × (now (state .exit) ≡ done .state) ⌝ }
 {
     let refusal = lock_refusal(state, holder, intertie, kw, term);
     if refusal != 0 {

@@ -40,7 +40,7 @@ fn pair_kw(state: &[u32], holder: u32, intertie: usize) -> u32
 // The bits of the words that make up a pair's kW, and of the kW.
 fn pair_bits(state: &[u32], holder: u32, intertie: usize) -> u32
     requires { ⌜ (stateWords ≤ length (now state)) × (holder < mostHolders) × (intertie < mostInterties) ⌝ }
-    ensures { λ r. ⌜ ltb r (tooManyKw) ≡ pairFits (now (state .entry)) holder intertie ⌝ }
+    ensures { λ r. ⌜ ltb r tooManyKw ≡ pairFits (now (state .entry)) holder intertie ⌝ }
 {
     let existing = row_word(state, layout::EXISTING + holder, intertie);
     let pre_ra = row_word(state, layout::PRE_RA + holder, intertie);
@@ -53,9 +53,9 @@ fn pair_bits(state: &[u32], holder: u32, intertie: usize) -> u32
 // Adds the kW of a holder to the sums of the interties. The result has the bits of its pairs.
 fn add_holder(state: &[u32], holder: u32, sums: &mut [u32; MOST_INTERTIES]) -> u32
     requires { ⌜ Sized (now state) × (holder < mostHolders) ⌝ }
-    ensures { λ r. ⌜ (ltb r (tooManyKw) ≡ allTo (interties (now (state .entry))) (λ (i : ℕ). pairFits (now (state .entry)) holder i))
-        × (now (sums .exit) ≡ fill (interties (now (state .entry)))
-        (λ (i : ℕ). (at (now (sums .entry)) i + pairKw (now (state .entry)) holder i % 2 ^ 32) % 2 ^ 32) (now (sums .entry))) ⌝ }
+    ensures { λ r. let s = now (state .entry) in let before = now (sums .entry) in
+        ⌜ (ltb r tooManyKw ≡ allTo (interties s) (λ (i : ℕ). pairFits s holder i))
+        × (now (sums .exit) ≡ fill (interties s) (λ (i : ℕ). (at before i + pairKw s holder i % 2 ^ 32) % 2 ^ 32) before) ⌝ }
 {
     let mut bits: u32 = 0;
     for intertie in 0..state::intertie_count(state) as usize {
@@ -79,7 +79,7 @@ fn two_kw(state: &[u32], holder: u32, intertie: usize) -> u32
 // The bits of these pairs.
 fn two_bits(state: &[u32], holder: u32, intertie: usize) -> u32
     requires { ⌜ (stateWords ≤ length (now state)) × (holder + 1 < mostHolders) × (intertie < mostInterties) ⌝ }
-    ensures { λ r. ⌜ ltb r (tooManyKw) ≡ twoFit (now (state .entry)) holder intertie ⌝ }
+    ensures { λ r. ⌜ ltb r tooManyKw ≡ twoFit (now (state .entry)) holder intertie ⌝ }
 {
     pair_bits(state, holder, intertie) | pair_bits(state, holder + 1, intertie)
 }
@@ -87,9 +87,9 @@ fn two_bits(state: &[u32], holder: u32, intertie: usize) -> u32
 // Adds the kW of a holder and the next, which is quicker than one after the other.
 fn add_two(state: &[u32], holder: u32, sums: &mut [u32; MOST_INTERTIES]) -> u32
     requires { ⌜ Sized (now state) × (holder + 1 < mostHolders) ⌝ }
-    ensures { λ r. ⌜ (ltb r (tooManyKw) ≡ allTo (interties (now (state .entry))) (λ (i : ℕ). twoFit (now (state .entry)) holder i))
-        × (now (sums .exit) ≡ fill (interties (now (state .entry)))
-        (λ (i : ℕ). (at (now (sums .entry)) i + twoKw (now (state .entry)) holder i % 2 ^ 32) % 2 ^ 32) (now (sums .entry))) ⌝ }
+    ensures { λ r. let s = now (state .entry) in let before = now (sums .entry) in
+        ⌜ (ltb r tooManyKw ≡ allTo (interties s) (λ (i : ℕ). twoFit s holder i))
+        × (now (sums .exit) ≡ fill (interties s) (λ (i : ℕ). (at before i + twoKw s holder i % 2 ^ 32) % 2 ^ 32) before) ⌝ }
 {
     let mut bits: u32 = 0;
     for intertie in 0..state::intertie_count(state) as usize {

@@ -37,7 +37,7 @@ pub(super) fn fields_in_range(state: &[u32]) -> bool
     ensures { λ r. ⌜ r ≡ fieldsInRange (now (state .entry)) ⌝ }
 {
     let holders = state::holder_count(state) as usize;
-    let most_sellers: u32 = 0xffff_ffff >> (32 - holders);
+    let most_sellers: u32 = 0xffff_ffff >> (limits::MOST_HOLDERS - holders);
     row_within(state, layout::LOAD_SHARE, holders, MOST_LOAD_SHARE)
         & (row_sum(state, layout::UNPLACED, holders) <= limits::MOST_TOTAL_KW)
         & row_within(state, layout::STEP_5_SHARE, holders, MOST_TOTAL_KW)

@@ -1,6 +1,6 @@
--- Where each word of the year's state stands (docs/RULES.md, "The year's state"): the number of its row or column, `..Row` and `..Column`,
--- its place, `..At`, and what it is in a state, `..Of`. The words stand in rows of 48. A row has a field of the interties or of the holders;
--- a field of the pairs has a row for each holder, 32 in all, and is named by its first.
+-- Where each word of the year's state stands (docs/RULES.md, "The year's state"): the number of its row or column, `..Row` and
+-- `..Column`, its place, `..At`, and what it is in a state, `..Of`. The words stand in rows of 48. A row has a field of the
+-- interties or of the holders; a field of the pairs has a row for each holder, 32 in all, and is named by its first.
 -- Each number is named here once; src/layout.rt has the same for the code.
 use Prim.Native.Nat.{ℕ, _+_, _*_}
 use mathlib.Core.List.{List}

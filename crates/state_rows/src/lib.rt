@@ -121,8 +121,8 @@ fn raise_row(state: &mut [u32], row: usize, count: usize, values: &[u64], from: 
 fn raise_rows(state: &mut [u32], field: usize, holders: usize, interties: usize, values: &[u64])
     requires { ⌜ (stateWords ≤ length (now state)) × (field + holders ≤ wholeRows) × (interties ≤ mostInterties)
         × (rowWords * holders ≤ length (now values)) ⌝ }
-    ensures { λ _. let s = now (state .entry) in ⌜ now (state .exit)
-        ≡ fillPairs field holders interties (λ (h i : ℕ). low32 (at s (place (field + h) i) + low32 (at (now (values .entry)) (place h i)))) s ⌝ }
+    ensures { λ _. let s = now (state .entry) in let table = now (values .entry) in ⌜ now (state .exit)
+        ≡ fillPairs field holders interties (λ (h i : ℕ). low32 (at s (place (field + h) i) + low32 (at table (place h i)))) s ⌝ }
 {
     let mut holder = 0;
     while holder < holders {

@@ -53,7 +53,8 @@ impl Calendar {
 
 // Takes kW that are unassigned on an intertie: the smaller of those named and those there are.
 pub fn take(state: &mut [u32], holder: u32, intertie: u32, kw: u64, day: u32) -> Answer
-    ensures { λ r. let done = take (now (state .entry)) holder intertie kw day in ⌜ (r ≡ done .answer) × (now (state .exit) ≡ done .state) ⌝ }
+    ensures { λ r. let done = take (now (state .entry)) holder intertie kw day in
+        ⌜ (r ≡ done .answer) × (now (state .exit) ≡ done .state) ⌝ }
 {
     let refusal = take_refusal(state, holder, intertie, kw, day);
     if refusal != 0 {

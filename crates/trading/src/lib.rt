@@ -16,7 +16,8 @@ ghost use Rattle.trading.specs.Request.{requestRefusal, requestState, re
 
 // Trade: unplaced kW from one holder to another, in stage 1. The seller joins the buyer's sellers.
 pub fn trade(state: &mut [u32], seller: u32, buyer: u32, kw: u64) -> Answer
-    ensures { λ r. let done = trade (now (state .entry)) seller buyer kw in ⌜ (r ≡ done .answer) × (now (state .exit) ≡ done .state) ⌝ }
+    ensures { λ r. let done = trade (now (state .entry)) seller buyer kw in
+        ⌜ (r ≡ done .answer) × (now (state .exit) ≡ done .state) ⌝ }
 {
     let refusal = trade_refusal(state, seller, buyer, kw);
     if refusal != 0 {
@@ -28,7 +29,8 @@ pub fn trade(state: &mut [u32], seller: u32, buyer: u32, kw: u64) -> Answer
 
 // Request: adds to a holder's pending kW on an intertie, in stages 2 and 3.
 pub fn request(state: &mut [u32], holder: u32, intertie: u32, kw: u64) -> Answer
-    ensures { λ r. let done = request (now (state .entry)) holder intertie kw in ⌜ (r ≡ done .answer) × (now (state .exit) ≡ done .state) ⌝ }
+    ensures { λ r. let done = request (now (state .entry)) holder intertie kw in
+        ⌜ (r ≡ done .answer) × (now (state .exit) ≡ done .state) ⌝ }
 {
     let refusal = request_refusal(state, holder, intertie, kw);
     if refusal != 0 {

@@ -9,26 +9,6 @@ use Rattle.holding.specs.Lock.{lockRefusal}
 use Rattle.holding.proofs.lock_refusal.Statement.{statement}
 use Rattle.holding.proofs.lock_refusal.Tie as tie
 
-returns : tie.Need-returns
-unfolding lockRefusal
-returns c = search turns depth 8
-
-returns-2 : tie.Need-returns-2
-unfolding lockRefusal
-returns-2 c = search turns depth 8
-
-returns-3 : tie.Need-returns-3
-unfolding lockRefusal
-returns-3 c = search turns depth 8
-
-returns-4 : tie.Need-returns-4
-unfolding lockRefusal
-returns-4 c = search turns depth 8
-
-returns-5 : tie.Need-returns-5
-unfolding lockRefusal
-returns-5 c = search turns depth 8
-
 barred-requires : tie.Need-barred-requires
 barred-requires c κs =
     let else4 : tie.Else4 = search needs in let else1 : tie.Else1 = search needs in
@@ -39,15 +19,14 @@ barred-requires c κs =
       kw-in-range (a .kw) (or-left (badKw (a .kw)) (badTerm (a .term)) (sym (after-unfit-lock .unfit-lock .ensures) ∙ else4 .if4 .left)) .1,
     )
 
-returns-6 : tie.Need-returns-6
-unfolding lockRefusal
-returns-6 c = search turns depth 8
-
-returns-7 : tie.Need-returns-7
-unfolding lockRefusal
-returns-7 c = search turns depth 8
-
 pub lock-refusal-spec : {M : Type 1} → statement M
+unfolding lockRefusal
 lock-refusal-spec =
-    tie.close (tie.spec (λ c κs. search needs) returns (λ c κs. search needs) returns-2 (λ c κs. search needs)
-    returns-3 (λ c κs. search needs) returns-4 (λ c κs. search needs) returns-5 barred-requires returns-6 returns-7)
+    tie.close (tie.spec
+    (λ c κs. search needs) (λ c. search turns depth 8)
+    (λ c κs. search needs) (λ c. search turns depth 8)
+    (λ c κs. search needs) (λ c. search turns depth 8)
+    (λ c κs. search needs) (λ c. search turns depth 8)
+    (λ c κs. search needs) (λ c. search turns depth 8)
+    barred-requires (λ c. search turns depth 8)
+    (λ c. search turns depth 8))

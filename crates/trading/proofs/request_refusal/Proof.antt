@@ -5,31 +5,13 @@ use Rattle.call.proofs.LadderLaws.{turns}
 use Rattle.trading.proofs.request_refusal.Statement.{statement}
 use Rattle.trading.proofs.request_refusal.Tie as tie
 
-returns : tie.Need-returns
-unfolding requestRefusal
-returns c = search turns depth 8
-
-returns-2 : tie.Need-returns-2
-unfolding requestRefusal
-returns-2 c = search turns depth 8
-
-returns-3 : tie.Need-returns-3
-unfolding requestRefusal
-returns-3 c = search turns depth 8
-
-returns-4 : tie.Need-returns-4
-unfolding requestRefusal
-returns-4 c = search turns depth 8
-
-returns-5 : tie.Need-returns-5
-unfolding requestRefusal
-returns-5 c = search turns depth 8
-
-returns-6 : tie.Need-returns-6
-unfolding requestRefusal
-returns-6 c = search turns depth 8
-
 pub request-refusal-spec : {M : Type 1} → statement M
+unfolding requestRefusal
 request-refusal-spec =
-    tie.close (tie.spec (λ c κs. search needs) returns (λ c κs. search needs) returns-2 (λ c κs. search needs)
-    returns-3 (λ c κs. search needs) returns-4 (λ c κs. search needs) returns-5 returns-6)
+    tie.close (tie.spec
+    (λ c κs. search needs) (λ c. search turns depth 8)
+    (λ c κs. search needs) (λ c. search turns depth 8)
+    (λ c κs. search needs) (λ c. search turns depth 8)
+    (λ c κs. search needs) (λ c. search turns depth 8)
+    (λ c κs. search needs) (λ c. search turns depth 8)
+    (λ c. search turns depth 8))

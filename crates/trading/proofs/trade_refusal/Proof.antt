@@ -5,31 +5,13 @@ use Rattle.call.proofs.LadderLaws.{turns}
 use Rattle.trading.proofs.trade_refusal.Statement.{statement}
 use Rattle.trading.proofs.trade_refusal.Tie as tie
 
-returns : tie.Need-returns
-unfolding tradeRefusal
-returns c = search turns depth 8
-
-returns-2 : tie.Need-returns-2
-unfolding tradeRefusal
-returns-2 c = search turns depth 8
-
-returns-3 : tie.Need-returns-3
-unfolding tradeRefusal
-returns-3 c = search turns depth 8
-
-returns-4 : tie.Need-returns-4
-unfolding tradeRefusal
-returns-4 c = search turns depth 8
-
-returns-5 : tie.Need-returns-5
-unfolding tradeRefusal
-returns-5 c = search turns depth 8
-
-returns-6 : tie.Need-returns-6
-unfolding tradeRefusal
-returns-6 c = search turns depth 8
-
 pub trade-refusal-spec : {M : Type 1} → statement M
+unfolding tradeRefusal
 trade-refusal-spec =
-    tie.close (tie.spec (λ c κs. search needs) returns (λ c κs. search needs) returns-2 (λ c κs. search needs)
-    returns-3 (λ c κs. search needs) returns-4 (λ c κs. search needs) returns-5 returns-6)
+    tie.close (tie.spec
+    (λ c κs. search needs) (λ c. search turns depth 8)
+    (λ c κs. search needs) (λ c. search turns depth 8)
+    (λ c κs. search needs) (λ c. search turns depth 8)
+    (λ c κs. search needs) (λ c. search turns depth 8)
+    (λ c κs. search needs) (λ c. search turns depth 8)
+    (λ c. search turns depth 8))
