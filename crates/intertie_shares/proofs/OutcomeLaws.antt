@@ -13,7 +13,7 @@ use Rattle.intertie_shares.specs.Pairs.{atPair}
 use Rattle.intertie_shares.specs.Rule.{overInterties, unfitSizes, shareOutEach}
 use Rattle.intertie_shares.specs.Workers.Fit.{Sized}
 
--- number 5 as its six tests
+-- refusal 5 as its six tests
 pub fit-sizes : (I H : ℕ) (pools claims weights grants : List ℕ) →
     unfitSizes I H (length pools) (length claims) (length weights) (length grants) ≡ false → Sized I H pools claims weights grants
 fit-sizes I H pools claims weights grants e =

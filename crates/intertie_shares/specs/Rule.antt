@@ -39,7 +39,7 @@ module _ (H : ℕ) (pool : ℕ → ℕ) (claim : ℕ → ℕ → ℕ) (weight : 
   abbrev pub overInterties : ℕ → List ℕ → Outcome
   overInterties I grants = record { answer = granted (kwOver I) (passesOver I); output = fillTable I H grantOn grants }
 
--- number 5, by the lengths of pools, claims, weights and grants: over 48 interties, over 32 holders, a pool or a weight
+-- refusal 5, by the lengths of pools, claims, weights and grants: over 48 interties, over 32 holders, a pool or a weight
 -- missing, a table under 1,536 words
 abbrev pub unfitSizes : ℕ → ℕ → ℕ → ℕ → ℕ → ℕ → Bool
 unfitSizes I H pools claims weights grants =

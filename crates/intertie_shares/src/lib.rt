@@ -20,7 +20,7 @@ ghost use Rattle.intertie_shares.specs.Pairs.{atPair, column, fillColumn
 ghost use Rattle.intertie_shares.specs.Rule.{unfitSizes, shareOutEach};
 ghost use Rattle.intertie_shares.specs.Workers.Fit.{Sized, InTable, SharedOn};
 
-// Number 5: whether a size is over its limit, a pool or a weight is missing, or a table is short.
+// Refusal 5: whether a size is over its limit, a pool or a weight is missing, or a table is short.
 fn unfit_sizes(
     interties: usize,
     holders: usize,

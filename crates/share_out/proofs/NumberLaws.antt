@@ -1,4 +1,4 @@
--- Number 9 as the code decides it: the pool first, then holder by holder.
+-- Refusal 9 as the code decides it: the pool first, then holder by holder.
 use Prim.Native.Nat.{ℕ, _+_, _%_, _≤_, _<_}
 use mathlib.Core.Path.{_≡_}
 use mathlib.Core.Bool.{true, false, not, _&&_}
@@ -31,7 +31,7 @@ pub all-fit : (pool : ℕ) (claims weights : List ℕ) → pool ≤ 20000000 →
 unfolding unfitNumbers
 all-fit pool claims weights p a = rw (le-ltb 20000000 pool p, a)
 
--- what is known of the numbers once number 9 is decided
+-- what is known of the numbers once refusal 9 is decided
 pub fit-pool : (pool : ℕ) (claims weights : List ℕ) → unfitNumbers pool claims weights ≡ false → pool ≤ 20000000
 unfolding unfitNumbers
 fit-pool pool claims weights e = ltb-false 20000000 pool (or-left (ltb 20000000 pool) _ e)
@@ -88,7 +88,7 @@ surely-fit claims weights c w p q e =
     (le-leb (at claims i) 20480000000 (omega (arith, p i l)))
     (le-leb (at weights i) 100000000 (raised-most (at weights i) (omega (arith, q i l)))))
 
--- number 9 once the pool is in range
+-- refusal 9 once the pool is in range
 pub by-holders : (pool : ℕ) (claims weights : List ℕ) → pool ≤ 20000000 →
     not (allTo (length claims) (inRange claims weights)) ≡ unfitNumbers pool claims weights
 unfolding unfitNumbers

@@ -14,7 +14,7 @@ use Rattle.base.proofs.WordLaws.{fill-front}
 use Rattle.share_out.specs.Rule.{claimed, shared, unfitLengths, unfitNumbers, sharedAnswer, shareOut}
 use Rattle.share_out.proofs.Promise.{promise, shared-fits}
 
--- what number 5 leaves of the lengths
+-- what refusal 5 leaves of the lengths
 pub record FitLengths (n weights output : ℕ) : Type 0 where
   pub weighed : weights ≡ n
   pub few : n ≤ 32

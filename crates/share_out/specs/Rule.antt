@@ -40,7 +40,7 @@ shared pool claims weights =
       | false ↦ runPasses claims weights pool 0 pool (tab (length claims) (λ i. 0))
     ]
 
--- number 5, by the lengths of claims, weights and output: lists of unlike length, over 32, or output shorter
+-- refusal 5, by the lengths of claims, weights and output: lists of unlike length, over 32, or output shorter
 abbrev pub unfitLengths : ℕ → ℕ → ℕ → Bool
 unfitLengths n weights output = not (eqb n weights) || (ltb mostHolders n || ltb output n)
 
@@ -48,7 +48,7 @@ unfitLengths n weights output = not (eqb n weights) || (ltb mostHolders n || ltb
 abbrev pub inRange : List ℕ → List ℕ → ℕ → Bool
 inRange claims weights i = leb (at claims i) mostClaimKw && leb (at weights i) mostLoadShare
 
--- number 9: pool over 20,000,000, claim over 20,480,000,000, weight over 100,000,000
+-- refusal 9: pool over 20,000,000, claim over 20,480,000,000, weight over 100,000,000
 unfoldable pub unfitNumbers : ℕ → List ℕ → List ℕ → Bool
 unfitNumbers pool claims weights = ltb mostKw pool || not (allTo (length claims) (inRange claims weights))
 

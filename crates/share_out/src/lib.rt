@@ -34,7 +34,7 @@ const ABOVE_WEIGHTS: u64 = 134_217_728;
 // What raises the most that a weight can be to the last number below that power.
 const RAISE: u64 = ABOVE_WEIGHTS - 1 - MOST_LOAD_SHARE;
 
-// Number 5: whether lists of these lengths can't be shared out.
+// Refusal 5: whether lists of these lengths can't be shared out.
 fn unfit_lengths(claims: usize, weights: usize, output: usize) -> bool
     ensures { λ r. ⌜ r ≡ unfitLengths claims weights output ⌝ }
 {
@@ -103,7 +103,7 @@ fn some_out_of_range(claims: &[u64], weights: &[u64]) -> bool
     false
 }
 
-// Number 9: whether the pool, a claim or a weight is out of its range. Most lists are told by their bits alone.
+// Refusal 9: whether the pool, a claim or a weight is out of its range. Most lists are told by their bits alone.
 fn unfit_numbers(pool: u64, claims: &[u64], weights: &[u64]) -> bool
     requires { ⌜ length (now weights) ≡ length (now claims) ⌝ }
     ensures { λ r. ⌜ r ≡ unfitNumbers pool (now (claims .entry)) (now (weights .entry)) ⌝ }
@@ -280,7 +280,7 @@ fn by_passes(pool: u64, claims: &[u64], weights: &[u64], grants: &mut [u64]) -> 
     passes
 }
 
-// Shares out what numbers 5 and 9 let pass: each claim whole where they fit, else by passes.
+// Shares out what refusals 5 and 9 let pass: each claim whole where they fit, else by passes.
 fn share(pool: u64, claims: &[u64], weights: &[u64], grants: &mut [u64]) -> Answer
     requires { ⌜ Accepted pool (now claims) (now weights) (now grants) ⌝ }
     ensures { λ r. let claims = now (claims .entry) in let weights = now (weights .entry) in

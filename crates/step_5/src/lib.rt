@@ -16,9 +16,10 @@ ghost use Rattle.step_5.specs.Shares.{allEligible, settled, step5Shares}
 ghost use Rattle.step_5.specs.Outcome.{fitLengths, fitNumbers, step5};
 ghost use Rattle.step_5.specs.Workers.Fit.{Marks, Accepted, Addends, Factors, Quota};
 
-// The two marks of a holder.
+// The mark of a holder that may yet get a share.
 const ELIGIBLE: u8 = 0;
 
+// And of one that gets none.
 const EXCLUDED: u8 = 1;
 
 // Whether lists of these lengths are alike, short enough, and leave room for the shares.

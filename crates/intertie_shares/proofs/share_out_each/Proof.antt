@@ -15,7 +15,7 @@ returns c =
     (sym (after-unfit-sizes .unfit-sizes .ensures) ∙ c .before .if1 .taken) in
     (c .refused .ensures ∙ sym (ap (λ (r : Outcome). r .answer) o), sym (ap (λ (r : Outcome). r .output) o))
 
--- number 5 is decided
+-- refusal 5 is decided
 fit : (c : tie.Else1) →
     let a = c .before .before .before .before .before .before .args in
     Sized (a .interties) (a .holders) (now (a .pools)) (now (a .claims)) (now (a .weights)) (now (a .grants))

@@ -1,4 +1,4 @@
--- What the workers are handed once number 5 is decided, and what one intertie's share-out leaves.
+-- What the workers are handed once refusal 5 is decided, and what one intertie's share-out leaves.
 use Prim.Native.Nat.{ℕ, _≤_, _<_}
 use mathlib.Core.Path.{_≡_}
 use mathlib.Core.List.{List}
@@ -9,7 +9,7 @@ use Rattle.base.specs.declared.Answer.{Answer}
 use Rattle.intertie_shares.specs.Pairs.{atPair, fillColumn}
 use Rattle.intertie_shares.specs.Rule.{shareOutOn}
 
--- what number 5 leaves of the sizes
+-- what refusal 5 leaves of the sizes
 pub record Sized (I H : ℕ) (pools claims weights grants : List ℕ) : Type 0 where
   pub interties : I ≤ mostInterties
   pub holders : H ≤ mostHolders

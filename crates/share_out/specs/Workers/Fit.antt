@@ -1,4 +1,4 @@
--- What the workers of a share-out are handed once numbers 5 and 9 are decided.
+-- What the workers of a share-out are handed once refusals 5 and 9 are decided.
 use Prim.Native.Nat.{ℕ, _+_, _*_, _/_, _%_, _≤_, _<_}
 use mathlib.Core.Path.{_≡_}
 use mathlib.Core.Bool.{Bool, false}
