@@ -1,4 +1,4 @@
--- The code's loops: over holders, a list and a column that are filled; over interties, a share-out on each.
+-- The code's loops: over holders, a column that is filled; over interties, a share-out on each.
 use Prim.Native.Nat.{ℕ, _+_, _≤_, _<_, min, zero-le}
 use mathlib.Core.Path.{_≡_, refl, sym, ap, _∙_}
 use mathlib.Core.Bool.{Bool, true, false}
@@ -14,7 +14,7 @@ use Rattle.base.specs.Words.{at, tab, fill}
 use Rattle.base.specs.Answers.{refused, granted}
 use Rattle.base.specs.declared.Answer.{Answer}
 use Rattle.base.proofs.SumLaws.{sumTo-zero, sumTo-more, sumTo-mono, sumTo-term, allTo-each}
-use Rattle.base.proofs.WordLaws.{take-tab, length-tab, at-tab, fill-zero, fill-turn, fill-whole}
+use Rattle.base.proofs.WordLaws.{take-tab, length-tab, at-tab, fill-whole}
 use Rattle.share_out.specs.Rule.{Outcome, shared, unfitLengths, unfitNumbers, sharedAnswer, shareOut}
 use Rattle.intertie_shares.specs.Pairs.{pairAt, atPair, column, fillColumn, fillTable}
 use Rattle.intertie_shares.specs.Rule.{amongHolders, shareOutOn, grantOn, kwOver, passesOver, shareOutEach}
@@ -23,29 +23,6 @@ use Rattle.intertie_shares.proofs.PairLaws.{fillColumn-zero, fillColumn
 use Rattle.intertie_shares.proofs.HolderLaws.{Ranged, among-fits}
 use Rattle.intertie_shares.proofs.IntertieLaws.{kept-on, kw-most, passes-most}
 use Rattle.intertie_shares.proofs.OutcomeLaws.{each-done}
-
--- after h places of a list have got f
-pub record Filled (f : ℕ → ℕ) (first words : List ℕ) (h : ℕ) : Type 0 where
-  pub inside : h ≤ length first
-  pub size : length words ≡ length first
-  pub written : words ≡ fill h f first
-
-module _ (f : ℕ → ℕ) (first : List ℕ) where
-  pub filled-none : Filled f first first 0
-  filled-none = record { inside = zero-le; size = refl; written = sym (fill-zero f first) }
-
-  pub filled-next : (words : List ℕ) (h x : ℕ) → Filled f first words h → h < length words → x ≡ f h → Filled f first (set words h x) (h + 1)
-  filled-next words h x s l e =
-      record {
-        inside = omega (arith, s .size);
-        size = length-set words h x ∙ s .size;
-        written = fill-turn h f first words x (s .written) e;
-      }
-
-  pub filled-all : (words : List ℕ) (h : ℕ) → Filled f first words h → length words ≤ h → words ≡ tab (length first) f
-  filled-all words h s l =
-      let end : h ≡ length first = omega (arith, s .inside, s .size) in
-      s .written ∙ ap (λ k. fill k f first) end ∙ fill-whole (length first) f first refl
 
 -- after h of n holders have got f on intertie i
 pub record Scattered (i n : ℕ) (f : ℕ → ℕ) (first table : List ℕ) (h : ℕ) : Type 0 where

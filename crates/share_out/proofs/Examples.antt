@@ -1,4 +1,5 @@
--- Cases a to f of 01's table of examples, as one theorem about the definition: pool; claims; weights give grants, passes.
+-- Cases a to f of the table of examples (docs/RULES.md, "Examples"), as one theorem about the definition: pool; claims; weights
+-- give grants, passes.
 use Prim.Native.Nat.{ℕ}
 use mathlib.Core.Path.{_≡_, refl}
 use mathlib.Core.List.{List, [], _∷_}

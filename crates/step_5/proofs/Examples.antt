@@ -11,7 +11,7 @@ abbrev gives : ℕ → List ℕ → List ℕ → List ℕ → Type 0
 gives total held loads shares = step5Shares total held loads ≡ shares
 
 pub record Cases : Type 0 where
-  -- case i of 01's table of examples: the third holder is excluded
+  -- case i of the table of examples (docs/RULES.md, "Examples"): the third holder is excluded
   pub i : gives 100000 (0 ∷ 0 ∷ 30000 ∷ []) (50000 ∷ 30000 ∷ 20000 ∷ []) (43750 ∷ 26250 ∷ 0 ∷ [])
   -- the second is excluded in the second round only
   pub again : gives 100 (50 ∷ 30 ∷ 0 ∷ []) (1 ∷ 1 ∷ 1 ∷ []) (0 ∷ 0 ∷ 20 ∷ [])

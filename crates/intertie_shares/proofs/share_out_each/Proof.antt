@@ -17,8 +17,8 @@ returns c =
 
 -- refusal 5 is decided
 fit : (c : tie.Else1) →
-    let a = c .before .before .before .before .before .before .args in
-    Sized (a .interties) (a .holders) (now (a .pools)) (now (a .claims)) (now (a .weights)) (now (a .grants))
+    (let start : tie.Start = search needs in let a = start .args in
+    Sized (a .interties) (a .holders) (now (a .pools)) (now (a .claims)) (now (a .weights)) (now (a .grants)))
 fit c = fit-sizes _ _ _ _ _ _ (sym (c .before .unfit-sizes .ensures) ∙ c .if1 .left)
 
 slice-aggregate-on-each-2 : tie.Need-slice-aggregate-on-each-2
