@@ -12,6 +12,9 @@ use base::limits::MOST_RECORDS;
 use base::limits::RECORD_BYTES;
 use base::limits::SHEET_HEADER_BYTES;
 
+// The most that a word says.
+pub const MOST_WORD: u32 = 4_294_967_295;
+
 // The bytes of a word.
 pub const WORD_BYTES: usize = 4;
 

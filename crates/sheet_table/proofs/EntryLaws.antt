@@ -10,9 +10,10 @@ use Rattle.base.specs.Words.{at}
 use Rattle.text.specs.Pieces.{before, fields}
 use Rattle.text.specs.Decimal.{numberOf}
 use Rattle.text.specs.declared.Number.{Number}
-use Rattle.carrying.specs.Line.{keyFrom}
-use Rattle.sheet_table.specs.Fields.{comma, word, numberFault, valueOf, kindIn, flaw, fieldsFlaw, lineFlaw, fieldAt, numberAt, sizesFlaw, recordFlaw, recordKey, recordKw}
-use Rattle.sheet_table.specs.Steps.{checkedAs, piecesPast, ValuesAre, SizesOf}
+use Rattle.sheet_records.specs.Key.{keyFrom}
+use Rattle.sheet_records.specs.Sheet.{mostWord}
+use Rattle.sheet_table.specs.Fields.{comma, numberFault, valueOf, kindIn, flaw, fieldsFlaw, lineFlaw, fieldAt, numberAt, sizesFlaw, recordFlaw, recordKey, recordKw}
+use Rattle.sheet_table.specs.Workers.Steps.{checkedAs, piecesPast, ValuesAre, SizesOf}
 use Rattle.sheet_table.specs.declared.fields.Checked.{Checked}
 use Rattle.sheet_table.specs.declared.fields.Flaw.{Flaw}
 use Rattle.sheet_table.proofs.FieldLaws.{pieces-first, within-most}
@@ -54,29 +55,29 @@ module _ (line : List ℕ) (end : ℕ) (is : end ≡ before comma line) where
   number-is j = ap (λ (t : List ℕ). valueOf (numberOf t)) (later-is j)
 
   -- the sizes
-  module _ (number : Number) (first : Checked) (read : number ≡ numberOf (take end line)) (check : first ≡ checkedAs word number) where
+  module _ (number : Number) (first : Checked) (read : number ≡ numberOf (take end line)) (check : first ≡ checkedAs mostWord number) where
     same : number ≡ numberOf (fieldAt fs 0)
     same = read ∙ ap numberOf (sym first-is)
 
     pub sizes-first : first .fault ≢ 0 → flaw (first .fault) 1 ≡ sizesFlaw fs
     unfolding sizesFlaw
-    sizes-first some = line-first number word (word ∷ []) fs first check some ∙ ap (λ (n : Number). lineFlaw n word (word ∷ []) fs) same
+    sizes-first some = line-first number mostWord (mostWord ∷ []) fs first check some ∙ ap (λ (n : Number). lineFlaw n mostWord (mostWord ∷ []) fs) same
 
-    pub sizes-rest : (f : Flaw) (values : List ℕ) → first .fault ≡ 0 → f ≡ fieldsFlaw 2 (word ∷ []) rest → (f .fault ≡ 0 → ValuesAre 1 (word ∷ []) rest values) →
+    pub sizes-rest : (f : Flaw) (values : List ℕ) → first .fault ≡ 0 → f ≡ fieldsFlaw 2 (mostWord ∷ []) rest → (f .fault ≡ 0 → ValuesAre 1 (mostWord ∷ []) rest values) →
         SizesOf fs (record { flaw = f; interties = first .value; holders = at values 0 })
     unfolding sizesFlaw
     sizes-rest f values none e stand = (
       e
-          ∙ ap (fieldsFlaw 2 (word ∷ [])) (sym rest-is)
-          ∙ line-rest number word (word ∷ []) fs first check none
-          ∙ ap (λ (n : Number). lineFlaw n word (word ∷ []) fs) same,
+          ∙ ap (fieldsFlaw 2 (mostWord ∷ [])) (sym rest-is)
+          ∙ line-rest number mostWord (mostWord ∷ []) fs first check none
+          ∙ ap (λ (n : Number). lineFlaw n mostWord (mostWord ∷ []) fs) same,
       λ z. (ap (λ (x : Checked). x .value) check ∙ ap valueOf same, stand z 0 (omega arith) .0 ∙ sym (number-is 0)),
     )
 
   -- a record
   module _ (number : Number) (kind : Checked) (read : number ≡ kindIn (take end line)) (check : kind ≡ checkedAs 15 number) where
     abbrev mosts : List ℕ
-    mosts = 63 ∷ 63 ∷ 255 ∷ 255 ∷ word ∷ []
+    mosts = 63 ∷ 63 ∷ 255 ∷ 255 ∷ mostWord ∷ []
 
     same-kind : number ≡ kindIn (fieldAt fs 0)
     same-kind = read ∙ ap kindIn (sym first-is)

@@ -22,7 +22,7 @@ use Rattle.sheet_table.specs.Fields.{comma, numberFault, valueOf, kindIn
 use Rattle.text.specs.declared.Number.{Number}
 use Rattle.text.specs.declared.Number.the-variants.{Value, Over, Bad}
 use Rattle.sheet_table.specs.Kinds.{named}
-use Rattle.sheet_table.specs.Steps.{checkedAs, piecesPast, ValuesAre}
+use Rattle.sheet_table.specs.Workers.Steps.{checkedAs, piecesPast, ValuesAre}
 use Rattle.sheet_table.specs.declared.fields.Checked.{Checked}
 
 ltb-same : (a b c d : ℕ) → (a < b → c < d) → (c < d → a < b) → ltb a b ≡ ltb c d

@@ -1,4 +1,3 @@
-pub mod BytesLaws
 pub mod KindLaws
 pub mod FieldLaws
 pub mod EntryLaws

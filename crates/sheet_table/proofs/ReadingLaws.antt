@@ -17,7 +17,7 @@ use Rattle.text.specs.Lines.{lineEnd}
 use Rattle.io.specs.Counts.{Counts}
 use Rattle.sheet_table.specs.Fields.{comma, recordFlaw, recordKey, recordKw}
 use Rattle.sheet_table.specs.Lines.{bare, stopped, reached, lineRead, linesRead, ofRecords}
-use Rattle.sheet_table.specs.Steps.{linesPast, EntryOf, Says}
+use Rattle.sheet_table.specs.Workers.Steps.{linesPast, EntryOf, Says}
 use Rattle.sheet_table.specs.declared.fields.Entry.{Entry}
 use Rattle.sheet_table.specs.declared.fields.Flaw.{Flaw}
 use Rattle.sheet_table.specs.declared.lines.Reading.{Reading}

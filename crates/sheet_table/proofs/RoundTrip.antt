@@ -13,16 +13,16 @@ use Rattle.text.specs.Pieces.{fields}
 use Rattle.text.specs.Decimal.{decimal}
 use Rattle.text.specs.Lines.{lineEnd}
 use Rattle.sheet_records.specs.Key.{kindOf}
-use Rattle.sheet_records.specs.Sheet.{wordAt, interties, holders, count, keyAt, kwAt}
+use Rattle.sheet_records.specs.Sheet.{mostWord, wordAt, interties, holders, count, keyAt, kwAt}
 use Rattle.sheet_records.specs.Refusal.{badLength, Whole}
 use Rattle.sheet_records.proofs.RefusalLaws.{whole}
 use Rattle.sheet_records.proofs.ReadingLaws.{word-below}
-use Rattle.sheet_table.specs.Bytes.{wordBytes, bytesOf, sheetBytes}
-use Rattle.sheet_table.specs.Fields.{comma, word, recordKey, recordKw}
+use Rattle.sheet_records.specs.Bytes.{wordBytes, bytesOf, sheetBytes}
+use Rattle.sheet_table.specs.Fields.{comma, recordKey, recordKw}
 use Rattle.sheet_table.specs.Lines.{bare, linesOf, reached, lineRead, linesRead, ofRecords, firstFields, laterLines, readingOf, sheetOf, converted, convertedInto}
 use Rattle.sheet_table.specs.Table.{labelOf, rowOf, rowsOf, sizesLine, tableOf}
 use Rattle.sheet_table.specs.declared.lines.Reading.{Reading}
-use Rattle.sheet_table.proofs.BytesLaws.{bytes-append, bytes-one}
+use Rattle.sheet_records.proofs.BytesLaws.{bytes-append, bytes-one}
 use Rattle.sheet_table.proofs.ReadingLaws.{records-cons, records-one, records-empty, records-none, read-next, read-none, empty-read}
 use Rattle.sheet_table.proofs.SplitLaws.{Without, decimal-without, label-without, body, body-bare, body-fields, line-cut}
 use Rattle.sheet_table.proofs.RowReadLaws as Row
@@ -40,7 +40,7 @@ map-append : (a b : List (List ℕ)) → map bare (a ++ b) ≡ map bare a ++ map
 map-append [] b = refl
 map-append (line ∷ a) b = ap (λ (l : List (List ℕ)). bare line ∷ l) (map-append a b)
 
--- the four bytes of a word of bytes
+-- the four bytes of a mostWord of bytes
 word-bytes : (d c b a w : ℕ) → d < 256 → c < 256 → b < 256 → a < 256 → w ≡ d + 256 * c + 65_536 * b + 16_777_216 * a → wordBytes w ≡ d ∷ c ∷ b ∷ a ∷ []
 word-bytes d c b a w ld lc lb la e =
     let one : w / 256 ≡ c + 256 * b + 65_536 * a = omega arith in
@@ -182,7 +182,7 @@ module _ (s : List ℕ) (bytes : (i : ℕ) → at s i < 256) where
     later : laterLines (tableOf s) ≡ lines (count s) ++ ([] ∷ [])
     later = ap (drop 1) cut
 
-    small : (b : ℕ) → wordAt s b ≤ word
+    small : (b : ℕ) → wordAt s b ≤ mostWord
     small b = word-below s b bytes
 
     reading : readingOf (tableOf s) ≡ reached (count s + 1 + 1) (count s)

@@ -25,7 +25,7 @@ use Rattle.sheet_records.specs.Sheet.{keyAt, kwAt}
 use Rattle.sheet_records.proofs.ReadingLaws.{word-below}
 use Rattle.sheet_table.specs.Kinds.{nameOf}
 use Rattle.sheet_table.specs.Fields.{comma}
-use Rattle.sheet_table.specs.Steps.{Put}
+use Rattle.sheet_table.specs.Workers.Steps.{Put}
 use Rattle.sheet_table.specs.Table.{labelOf, rowOf, rowsOf}
 
 -- a number of so many digits

@@ -15,10 +15,11 @@ use Rattle.text.specs.declared.Number.{Number}
 use Rattle.text.specs.declared.Number.the-variants.{Value}
 use Rattle.text.proofs.ReadLaws.{read-back}
 use Rattle.sheet_records.specs.Key.{kindOf, holderOf, intertieOf, rankOf, yearsOf}
-use Rattle.carrying.proofs.KeyLaws.{same-key}
+use Rattle.sheet_records.proofs.KeyLaws.{same-key}
 use Rattle.text.specs.Ascii.{same}
 use Rattle.sheet_table.specs.Kinds.{nameOf, named}
-use Rattle.sheet_table.specs.Fields.{comma, word, numberFault, valueOf, kindIn, flaw, fieldsFlaw, lineFlaw, sizesFlaw, recordFlaw, recordKey, recordKw, numberAt}
+use Rattle.sheet_records.specs.Sheet.{mostWord}
+use Rattle.sheet_table.specs.Fields.{comma, numberFault, valueOf, kindIn, flaw, fieldsFlaw, lineFlaw, sizesFlaw, recordFlaw, recordKey, recordKw, numberAt}
 use Rattle.sheet_table.specs.Lines.{bare, reached, lineRead}
 use Rattle.sheet_table.specs.Table.{labelOf}
 use Rattle.sheet_table.proofs.SplitLaws.{label-without, body, body-bare, body-fields}
@@ -41,13 +42,13 @@ label-back kind low =
     refl refl refl refl refl refl refl refl refl refl refl refl refl refl refl refl kind low
 
 -- numbers within their fields
-within-back : (most n : ℕ) → n ≤ most → most ≤ word → numberFault most (numberOf (decimal n)) ≡ 0
+within-back : (most n : ℕ) → n ≤ most → most ≤ mostWord → numberFault most (numberOf (decimal n)) ≡ 0
 within-back most n small fits = ap (numberFault most) (read-back n (omega arith)) ∙ rw (le-ltb most n small) refl
 
-value-back : (n : ℕ) → n ≤ word → valueOf (numberOf (decimal n)) ≡ n
+value-back : (n : ℕ) → n ≤ mostWord → valueOf (numberOf (decimal n)) ≡ n
 value-back n small = ap valueOf (read-back n (omega arith))
 
-flaw-back : (column most n : ℕ) (mosts : List ℕ) (fs : List (List ℕ)) → n ≤ most → most ≤ word →
+flaw-back : (column most n : ℕ) (mosts : List ℕ) (fs : List (List ℕ)) → n ≤ most → most ≤ mostWord →
     fieldsFlaw column (most ∷ mosts) (decimal n ∷ fs) ≡ fieldsFlaw (suc column) mosts fs
 unfolding fieldsFlaw
 flaw-back column most n mosts fs small fits = rw (eq-eqb (numberFault most (numberOf (decimal n))) 0 (within-back most n small fits), fieldsFlaw) refl
@@ -62,15 +63,15 @@ unfolding lineFlaw
 first-back number most n mosts fs e small = rw (e, le-ltb most n small) refl
 
 -- the sizes
-module _ (I H : ℕ) (i : I ≤ word) (h : H ≤ word) where
+module _ (I H : ℕ) (i : I ≤ mostWord) (h : H ≤ mostWord) where
   abbrev sizes : List (List ℕ)
   sizes = decimal I ∷ map decimal (H ∷ [])
 
   pub sizes-sound : sizesFlaw sizes ≡ flaw 0 0
   unfolding sizesFlaw
   sizes-sound =
-      first-back (numberOf (decimal I)) word I (word ∷ []) sizes (read-back I (omega arith)) i
-      ∙ flaw-back 2 word H [] [] h (omega arith)
+      first-back (numberOf (decimal I)) mostWord I (mostWord ∷ []) sizes (read-back I (omega arith)) i
+      ∙ flaw-back 2 mostWord H [] [] h (omega arith)
       ∙ no-fields 3
 
   pub sizes-back : (numberAt sizes 0 ≡ I) × (numberAt sizes 1 ≡ H)
@@ -86,19 +87,19 @@ row key kw = labelOf (kindOf key) ∷ map decimal (numbers key kw)
 abbrev pub rowText : ℕ → ℕ → List ℕ
 rowText key kw = body (labelOf (kindOf key)) (numbers key kw)
 
-module _ (key kw : ℕ) (k : key ≤ word) (q : kw ≤ word) where
+module _ (key kw : ℕ) (k : key ≤ mostWord) (q : kw ≤ mostWord) where
   kind-back : kindIn (labelOf (kindOf key)) ≡ Value (kindOf key)
   kind-back = label-back (kindOf key) (omega arith)
 
   pub row-sound : recordFlaw (row key kw) ≡ flaw 0 0
   unfolding recordFlaw
   row-sound =
-      first-back (kindIn (labelOf (kindOf key))) 15 (kindOf key) (63 ∷ 63 ∷ 255 ∷ 255 ∷ word ∷ []) (row key kw) kind-back (omega arith)
-      ∙ flaw-back 2 63 (holderOf key) (63 ∷ 255 ∷ 255 ∷ word ∷ []) (map decimal (intertieOf key ∷ rankOf key ∷ yearsOf key ∷ kw ∷ [])) (omega arith) (omega arith)
-      ∙ flaw-back 3 63 (intertieOf key) (255 ∷ 255 ∷ word ∷ []) (map decimal (rankOf key ∷ yearsOf key ∷ kw ∷ [])) (omega arith) (omega arith)
-      ∙ flaw-back 4 255 (rankOf key) (255 ∷ word ∷ []) (map decimal (yearsOf key ∷ kw ∷ [])) (omega arith) (omega arith)
-      ∙ flaw-back 5 255 (yearsOf key) (word ∷ []) (map decimal (kw ∷ [])) (omega arith) (omega arith)
-      ∙ flaw-back 6 word kw [] [] q (omega arith)
+      first-back (kindIn (labelOf (kindOf key))) 15 (kindOf key) (63 ∷ 63 ∷ 255 ∷ 255 ∷ mostWord ∷ []) (row key kw) kind-back (omega arith)
+      ∙ flaw-back 2 63 (holderOf key) (63 ∷ 255 ∷ 255 ∷ mostWord ∷ []) (map decimal (intertieOf key ∷ rankOf key ∷ yearsOf key ∷ kw ∷ [])) (omega arith) (omega arith)
+      ∙ flaw-back 3 63 (intertieOf key) (255 ∷ 255 ∷ mostWord ∷ []) (map decimal (rankOf key ∷ yearsOf key ∷ kw ∷ [])) (omega arith) (omega arith)
+      ∙ flaw-back 4 255 (rankOf key) (255 ∷ mostWord ∷ []) (map decimal (yearsOf key ∷ kw ∷ [])) (omega arith) (omega arith)
+      ∙ flaw-back 5 255 (yearsOf key) (mostWord ∷ []) (map decimal (kw ∷ [])) (omega arith) (omega arith)
+      ∙ flaw-back 6 mostWord kw [] [] q (omega arith)
       ∙ no-fields 7
 
   pub key-back : recordKey (row key kw) ≡ key

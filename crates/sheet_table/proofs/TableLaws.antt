@@ -19,7 +19,7 @@ use Rattle.sheet_records.specs.Sheet.{interties, holders, count}
 use Rattle.sheet_records.specs.Refusal.{badLength}
 use Rattle.sheet_records.proofs.RefusalLaws.{whole}
 use Rattle.sheet_table.specs.Fields.{comma}
-use Rattle.sheet_table.specs.Steps.{Put}
+use Rattle.sheet_table.specs.Workers.Steps.{Put}
 use Rattle.sheet_table.specs.Table.{rowsOf, sizesLine, tableOf}
 
 -- what `to_table` leaves

@@ -1,6 +1,6 @@
-pub mod Bytes
 pub mod Kinds
+pub mod Faults
 pub mod Fields
 pub mod Lines
-pub mod Steps
 pub mod Table
+pub mod Workers

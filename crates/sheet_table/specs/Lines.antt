@@ -9,15 +9,21 @@ use Rattle.base.specs.Words.{at}
 use Rattle.text.specs.Written.{written}
 use Rattle.text.specs.Pieces.{fields}
 use Rattle.text.specs.Lines.{lineEnd}
-use Rattle.sheet_table.specs.Bytes.{sheetBytes}
+use Rattle.base.specs.Limits.{mostRecords}
+use Rattle.sheet_records.specs.Bytes.{sheetBytes}
+use Rattle.sheet_table.specs.Faults.{tooManyRecords}
 use Rattle.sheet_table.specs.Fields.{comma, numberAt, sizesFlaw, recordFlaw, recordKey, recordKw}
 use Rattle.sheet_table.specs.declared.lines.Reading.{Reading}
 use Rattle.sheet_table.specs.declared.Converted.{Converted}
 
+abbrev pub carriageReturn : ℕ
+carriageReturn = 13
+
 -- a line without one carriage return at its end
 abbrev pub bare : List ℕ → List ℕ
-bare line = pick (eqb (at line (length line - 1)) 13) (take (length line - 1) line) line
+bare line = pick (eqb (at line (length line - 1)) carriageReturn) (take (length line - 1) line) line
 
+-- the lines of a text
 unfoldable pub linesOf : List ℕ → List (List ℕ)
 linesOf text = map bare (fields lineEnd text)
 
@@ -29,11 +35,11 @@ stopped fault line column = record { fault = fault; line = line; column = column
 abbrev pub reached : ℕ → ℕ → Reading
 reached line count = record { fault = 0; line = line; column = 0; count = count }
 
--- the reading after a line more: an empty line says nothing; 4, over 1,024 records
+-- the reading after a line more: an empty line says nothing
 unfoldable pub lineRead : Reading → List ℕ → Reading
 lineRead read line =
     pick (eqb (length line) 0) (reached (read .line + 1) (read .count))
-    (pick (leb 1024 (read .count)) (stopped 4 (read .line + 1) 1)
+    (pick (leb mostRecords (read .count)) (stopped tooManyRecords (read .line + 1) 1)
     (pick (eqb (recordFlaw (fields comma line) .fault) 0) (reached (read .line + 1) (read .count + 1))
     (stopped (recordFlaw (fields comma line) .fault) (read .line + 1) (recordFlaw (fields comma line) .column))))
 
@@ -67,11 +73,12 @@ sheetOf text =
     sheetBytes (numberAt (firstFields text) 0) (numberAt (firstFields text) 1)
     (ofRecords recordKey (laterLines text)) (ofRecords recordKw (laterLines text))
 
--- what converting a text answers, and what stands in memory then
+-- what converting a text answers
 unfoldable pub converted : List ℕ → Converted
 converted text =
     pick (eqb (readingOf text .fault) 0) (record { fault = 0; line = 0; column = 0; count = length (sheetOf text) })
     (record { fault = readingOf text .fault; line = readingOf text .line; column = readingOf text .column; count = 0 })
 
+-- and what stands in memory then
 unfoldable pub convertedInto : List ℕ → List ℕ → List ℕ
 convertedInto text memory = pick (eqb (readingOf text .fault) 0) (written 0 (sheetOf text) memory) memory

@@ -29,6 +29,6 @@ rowsOf sheet (suc k) = rowsOf sheet k ++ rowOf (keyAt sheet k) (kwAt sheet k)
 unfoldable pub sizesLine : List ℕ → List ℕ
 sizesLine sheet = lineOf (decimal (interties sheet)) comma (holders sheet ∷ [])
 
--- the whole text; none for bytes that number 1 refuses
+-- the whole text; none for bytes that refusal 1 refuses
 unfoldable pub tableOf : List ℕ → List ℕ
 tableOf sheet = pick (badLength sheet) [] (sizesLine sheet ++ rowsOf sheet (count sheet))

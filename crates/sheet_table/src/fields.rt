@@ -1,21 +1,21 @@
 // The fields of a line, read as numbers.
+use crate::faults;
 use crate::kinds;
+use sheet_records::key;
+use sheet_records::words::MOST_WORD;
 use text::Number;
 ghost use mathlib.Core.Path.{_≡_};
-ghost use Prim.Native.Nat.{_+_, _≤_};
-ghost use lib.ListN.{length, drop};
-ghost use Rattle.text.specs.Pieces.{before, fields};
-ghost use Rattle.carrying.specs.Line.{keyFrom};
+ghost use Prim.Native.Nat.{_≤_};
+ghost use lib.ListN.{length};
+ghost use Rattle.text.specs.Pieces.{fields};
+ghost use Rattle.sheet_records.specs.Key.{mostKind, mostHolderNumber, mostIntertieNumber, mostRankNumber, mostYearsNumber, keyFrom};
 ghost use Rattle.sheet_table.specs.Fields.{comma, kindIn, fieldsFlaw};
-ghost use Rattle.sheet_table.specs.Steps.{checkedAs, piecesPast, ValuesAre, SizesOf, EntryOf};
-
-// The largest number of 32 bits.
-const WORD: u32 = 4_294_967_295;
+ghost use Rattle.sheet_table.specs.Workers.Steps.{fieldsPastKind, checkedAs, piecesPast, ValuesAre, SizesOf, EntryOf};
 
 // The fields of a record after its kind.
 const FIELDS: usize = 5;
 
-// A number and its fault: 1, not a number; 2, too large.
+// A number and its fault.
 pub(crate) struct Checked {
     pub fault: u32,
     pub value: u32,
@@ -41,18 +41,28 @@ pub(crate) struct Entry {
     pub kw: u32,
 }
 
+// Whether a number is at most so much.
 fn check_number(number: Number, most: u32) -> Checked
     ensures { λ r. ⌜ r ≡ checkedAs most number ⌝ }
 {
     match number {
         Number::Value(value) => {
             if most < value {
-                return Checked { fault: 2, value };
+                return Checked {
+                    fault: faults::TOO_LARGE,
+                    value,
+                };
             }
             Checked { fault: 0, value }
         }
-        Number::Over => Checked { fault: 2, value: 0 },
-        Number::Bad => Checked { fault: 1, value: 0 },
+        Number::Over => Checked {
+            fault: faults::TOO_LARGE,
+            value: 0,
+        },
+        Number::Bad => Checked {
+            fault: faults::NOT_NUMBER,
+            value: 0,
+        },
     }
 }
 
@@ -67,31 +77,24 @@ fn kind_in(field: &[u8]) -> Number
     text::read_number(field)
 }
 
-// Where the piece of a text that starts at a place ends: at the next separator, or with the text.
-pub(crate) fn piece_end(text: &[u8], from: usize, separator: u8) -> usize
-    requires { ⌜ from ≤ length (now text) ⌝ }
-    ensures { λ r. ⌜ (r ≡ from + before separator (drop from (now (text .entry)))) × (from ≤ r) × (r ≤ length (now (text .entry))) ⌝ }
-{
-    from + text::before(&text[from..], separator)
-}
-
 // Reads the fields of a line past the first, which ends at a place.
 fn read_values(line: &[u8], start: usize, mosts: &[u32], values: &mut [u32]) -> Flaw
-    requires { ⌜ (start ≤ length (now line)) × (length (now mosts) ≤ 5) × (length (now values) ≡ length (now mosts)) ⌝ }
-    ensures { λ r. ⌜ (r ≡ fieldsFlaw 2 (now (mosts .entry)) (piecesPast comma start (now (line .entry))))
-        × (r .fault ≡ 0 → ValuesAre (length (now (mosts .entry))) (now (mosts .entry)) (piecesPast comma start (now (line .entry))) (now (values .exit))) ⌝ }
+    requires { ⌜ (start ≤ length (now line))
+        × (length (now mosts) ≤ fieldsPastKind) × (length (now values) ≡ length (now mosts)) ⌝ }
+    ensures { λ r. let m = now (mosts .entry) in let pieces = piecesPast comma start (now (line .entry)) in
+        ⌜ (r ≡ fieldsFlaw 2 m pieces) × (r .fault ≡ 0 → ValuesAre (length m) m pieces (now (values .exit))) ⌝ }
 {
     let mut end = start;
     let mut i = 0;
     while i < mosts.len() {
         if end == line.len() {
             return Flaw {
-                fault: 3,
+                fault: faults::WRONG_FIELDS,
                 column: i + 2,
             };
         }
         let from = end + 1;
-        end = piece_end(line, from, b',');
+        end = text::piece_end(line, from, b',');
         let field = check_number(text::read_number(&line[from..end]), mosts[i]);
         if field.fault != 0 {
             return Flaw {
@@ -104,7 +107,7 @@ fn read_values(line: &[u8], start: usize, mosts: &[u32], values: &mut [u32]) -> 
     }
     if end < line.len() {
         return Flaw {
-            fault: 3,
+            fault: faults::WRONG_FIELDS,
             column: i + 2,
         };
     }
@@ -116,10 +119,11 @@ fn read_values(line: &[u8], start: usize, mosts: &[u32], values: &mut [u32]) -> 
 
 // A key from fields within their widths.
 fn pack(kind: u32, holder: u32, intertie: u32, rank: u32, years: u32) -> u32
-    requires { ⌜ (kind ≤ 15) × (holder ≤ 63) × (intertie ≤ 63) × (rank ≤ 255) × (years ≤ 255) ⌝ }
+    requires { ⌜ (kind ≤ mostKind) × (holder ≤ mostHolderNumber) × (intertie ≤ mostIntertieNumber)
+        × (rank ≤ mostRankNumber) × (years ≤ mostYearsNumber) ⌝ }
     ensures { λ r. ⌜ r ≡ keyFrom kind holder intertie rank years ⌝ }
 {
-    carrying::key::pack(kind, holder, intertie, rank, years)
+    key::pack(kind, holder, intertie, rank, years)
 }
 
 // The first line: I and H.
@@ -127,7 +131,7 @@ pub(crate) fn read_sizes(line: &[u8]) -> Sizes
     ensures { λ r. ⌜ SizesOf (fields comma (now (line .entry))) r ⌝ }
 {
     let end = text::before(line, b',');
-    let first = check_number(text::read_number(&line[..end]), WORD);
+    let first = check_number(text::read_number(&line[..end]), MOST_WORD);
     if first.fault != 0 {
         return Sizes {
             flaw: Flaw {
@@ -139,7 +143,7 @@ pub(crate) fn read_sizes(line: &[u8]) -> Sizes
         };
     }
     let mut second = [0u32; 1];
-    let flaw = read_values(line, end, &[WORD], &mut second);
+    let flaw = read_values(line, end, &[MOST_WORD], &mut second);
     Sizes {
         flaw,
         interties: first.value,
@@ -152,7 +156,7 @@ pub(crate) fn read_entry(line: &[u8]) -> Entry
     ensures { λ r. ⌜ EntryOf (fields comma (now (line .entry))) r ⌝ }
 {
     let end = text::before(line, b',');
-    let kind = check_number(kind_in(&line[..end]), 15);
+    let kind = check_number(kind_in(&line[..end]), key::KIND_MASK);
     if kind.fault != 0 {
         return Entry {
             flaw: Flaw {
@@ -164,7 +168,18 @@ pub(crate) fn read_entry(line: &[u8]) -> Entry
         };
     }
     let mut values = [0u32; FIELDS];
-    let flaw = read_values(line, end, &[63, 63, 255, 255, WORD], &mut values);
+    let flaw = read_values(
+        line,
+        end,
+        &[
+            key::HOLDER_MASK,
+            key::INTERTIE_MASK,
+            key::RANK_MASK,
+            key::YEARS_MASK,
+            MOST_WORD,
+        ],
+        &mut values,
+    );
     if flaw.fault != 0 {
         return Entry {
             flaw,

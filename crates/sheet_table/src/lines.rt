@@ -1,18 +1,18 @@
 // The lines of a text: the sizes, then a record a line.
+use crate::faults;
 use crate::fields;
 use crate::fields::Sizes;
+use base::limits::MOST_RECORDS;
 ghost use mathlib.Core.Path.{_≡_};
 ghost use mathlib.Core.List.{_∷_, []};
 ghost use Prim.Native.Nat.{_≤_, _<_, _^_};
 ghost use lib.ListN.{length, take};
 ghost use Rattle.io.specs.Counts.{Counts};
+ghost use Rattle.base.specs.Limits.{mostRecords};
 ghost use Rattle.text.specs.Pieces.{fields};
 ghost use Rattle.sheet_table.specs.Fields.{comma, recordKey, recordKw};
 ghost use Rattle.sheet_table.specs.Lines.{bare, reached, lineRead, linesRead, ofRecords};
-ghost use Rattle.sheet_table.specs.Steps.{SizesOf, Says, linesPast};
-
-// The most records of a sheet.
-pub(crate) const RECORDS: usize = 1024;
+ghost use Rattle.sheet_table.specs.Workers.Steps.{SizesOf, Says, linesPast};
 
 // How far a reading has come: the first fault with its line and column, or the lines and the records
 // that were read.
@@ -49,13 +49,15 @@ pub(crate) fn read_first(line: &[u8]) -> Sizes
 fn read_line(
     line: &[u8],
     read: Reading,
-    keys: &mut [u32; RECORDS],
-    kws: &mut [u32; RECORDS],
+    keys: &mut [u32; MOST_RECORDS],
+    kws: &mut [u32; MOST_RECORDS],
 ) -> Reading
-    requires { ⌜ (read .count ≤ 1024) × (read .line < 2 ^ 63) × (length (now keys) ≡ 1024) × (length (now kws) ≡ 1024) ⌝ }
-    ensures { λ r. ⌜ (r ≡ lineRead read (bare (now (line .entry)))) × (length (now (keys .exit)) ≡ 1024) × (length (now (kws .exit)) ≡ 1024)
-        × (r .fault ≡ 0 → Says recordKey (now (keys .entry)) (read .count) (now (keys .exit)) (r .count) (bare (now (line .entry)) ∷ [])
-        × Says recordKw (now (kws .entry)) (read .count) (now (kws .exit)) (r .count) (bare (now (line .entry)) ∷ [])) ⌝ }
+    requires { ⌜ (read .count ≤ mostRecords) × (read .line < 2 ^ 63)
+        × (length (now keys) ≡ mostRecords) × (length (now kws) ≡ mostRecords) ⌝ }
+    ensures { λ r. let l = bare (now (line .entry)) in
+        ⌜ (r ≡ lineRead read l) × (length (now (keys .exit)) ≡ mostRecords) × (length (now (kws .exit)) ≡ mostRecords)
+        × (r .fault ≡ 0 → Says recordKey (now (keys .entry)) (read .count) (now (keys .exit)) (r .count) (l ∷ [])
+        × Says recordKw (now (kws .entry)) (read .count) (now (kws .exit)) (r .count) (l ∷ [])) ⌝ }
 {
     let number = read.line + 1;
     let count = read.count;
@@ -68,9 +70,9 @@ fn read_line(
             count,
         };
     }
-    if RECORDS <= count {
+    if MOST_RECORDS <= count {
         return Reading {
-            fault: 4,
+            fault: faults::TOO_MANY_RECORDS,
             line: number,
             column: 1,
             count: 0,
@@ -99,13 +101,15 @@ fn read_line(
 pub(crate) fn read_lines(
     text: &[u8],
     start: usize,
-    keys: &mut [u32; RECORDS],
-    kws: &mut [u32; RECORDS],
+    keys: &mut [u32; MOST_RECORDS],
+    kws: &mut [u32; MOST_RECORDS],
 ) -> Reading
-    requires { ⌜ (start ≤ length (now text)) × (length (now keys) ≡ 1024) × (length (now kws) ≡ 1024) ⌝ }
-    ensures { λ r. ⌜ (r ≡ linesRead (reached 1 0) (linesPast start (now (text .entry)))) × Counts (r .count) (now (keys .exit)) × Counts (r .count) (now (kws .exit)) × (r .count ≤ 1024)
-        × (r .fault ≡ 0 → (take (r .count) (now (keys .exit)) ≡ ofRecords recordKey (linesPast start (now (text .entry))))
-        × (take (r .count) (now (kws .exit)) ≡ ofRecords recordKw (linesPast start (now (text .entry))))) ⌝ }
+    requires { ⌜ (start ≤ length (now text)) × (length (now keys) ≡ mostRecords) × (length (now kws) ≡ mostRecords) ⌝ }
+    ensures { λ r. let lines = linesPast start (now (text .entry)) in
+        ⌜ (r ≡ linesRead (reached 1 0) lines)
+        × Counts (r .count) (now (keys .exit)) × Counts (r .count) (now (kws .exit)) × (r .count ≤ mostRecords)
+        × (r .fault ≡ 0 → (take (r .count) (now (keys .exit)) ≡ ofRecords recordKey lines)
+        × (take (r .count) (now (kws .exit)) ≡ ofRecords recordKw lines)) ⌝ }
 {
     let mut end = start;
     let mut read = Reading {
@@ -122,7 +126,7 @@ pub(crate) fn read_lines(
             return read;
         }
         let from = end + 1;
-        end = fields::piece_end(text, from, b'\n');
+        end = text::piece_end(text, from, b'\n');
         read = read_line(&text[from..end], read, keys, kws);
     }
 }

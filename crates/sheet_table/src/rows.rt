@@ -13,17 +13,19 @@ ghost use mathlib.Core.List.{_∷_, []};
 ghost use Prim.Native.Nat.{_+_, _≤_};
 ghost use lib.ListN.{length};
 ghost use Rattle.text.specs.Decimal.{decimal};
-ghost use Rattle.text.specs.Lines.{lineOf};
+ghost use Rattle.text.specs.Lines.{labelBytes, lineFigures, lineOf};
 ghost use Rattle.sheet_records.specs.Sheet.{count};
 ghost use Rattle.sheet_records.specs.Refusal.{badLength};
 ghost use Rattle.sheet_table.specs.Fields.{comma};
-ghost use Rattle.sheet_table.specs.Steps.{Put};
+ghost use Rattle.sheet_table.specs.Workers.Steps.{sizesBytes, rowBytes, tableBytes, Put};
 ghost use Rattle.sheet_table.specs.Table.{rowOf, rowsOf};
 
 // A label, and figures after commas.
 fn put_line(label: &[u8], figures: &[u64], out: &mut [u8], at: usize) -> usize
-    requires { ⌜ (length (now label) ≤ 20) × (length (now figures) ≤ 8) × (at + length (lineOf (now label) comma (now figures)) ≤ length (now out)) ⌝ }
-    ensures { λ r. ⌜ Put at (lineOf (now (label .entry)) comma (now (figures .entry))) r (now (out .entry)) (now (out .exit)) ⌝ }
+    requires { ⌜ (length (now label) ≤ labelBytes) × (length (now figures) ≤ lineFigures)
+        × (at + length (lineOf (now label) comma (now figures)) ≤ length (now out)) ⌝ }
+    ensures { λ r. let line = lineOf (now (label .entry)) comma (now (figures .entry)) in
+        ⌜ Put at line r (now (out .entry)) (now (out .exit)) ⌝ }
 {
     let mut buffer = [0u8; LINE_BYTES];
     let count = text::line(label, b',', figures, &mut buffer);
@@ -32,8 +34,9 @@ fn put_line(label: &[u8], figures: &[u64], out: &mut [u8], at: usize) -> usize
 
 // I and H.
 pub(crate) fn put_sizes(interties: u32, holders: u32, out: &mut [u8]) -> usize
-    requires { ⌜ 22 ≤ length (now out) ⌝ }
-    ensures { λ r. ⌜ Put 0 (lineOf (decimal interties) comma (holders ∷ [])) r (now (out .entry)) (now (out .exit)) × (r ≤ 22) ⌝ }
+    requires { ⌜ sizesBytes ≤ length (now out) ⌝ }
+    ensures { λ r. let line = lineOf (decimal interties) comma (holders ∷ []) in
+        ⌜ Put 0 line r (now (out .entry)) (now (out .exit)) × (r ≤ sizesBytes) ⌝ }
 {
     let mut digits = [0u8; 20];
     let count = io::decimal(interties as u64, &mut digits);
@@ -42,7 +45,7 @@ pub(crate) fn put_sizes(interties: u32, holders: u32, out: &mut [u8]) -> usize
 
 // The line of a record.
 fn put_row(key: u32, kw: u32, out: &mut [u8], at: usize) -> usize
-    requires { ⌜ at + 34 ≤ length (now out) ⌝ }
+    requires { ⌜ at + rowBytes ≤ length (now out) ⌝ }
     ensures { λ r. ⌜ Put at (rowOf key kw) r (now (out .entry)) (now (out .exit)) ⌝ }
 {
     let kind = key::kind(key);
@@ -65,8 +68,9 @@ fn put_row(key: u32, kw: u32, out: &mut [u8], at: usize) -> usize
 
 // The lines of all records.
 pub(crate) fn put_rows(sheet: &[u8], out: &mut [u8], at: usize) -> usize
-    requires { ⌜ (badLength (now sheet) ≡ false) × (at ≤ 22) × (length (now out) ≡ 34838) ⌝ }
-    ensures { λ r. ⌜ Put at (rowsOf (now (sheet .entry)) (count (now (sheet .entry)))) r (now (out .entry)) (now (out .exit)) × (r ≤ 34838) ⌝ }
+    requires { ⌜ (badLength (now sheet) ≡ false) × (at ≤ sizesBytes) × (length (now out) ≡ tableBytes) ⌝ }
+    ensures { λ r. let s = now (sheet .entry) in
+        ⌜ Put at (rowsOf s (count s)) r (now (out .entry)) (now (out .exit)) × (r ≤ tableBytes) ⌝ }
 {
     let count = words::record_count(sheet) as usize;
     let mut next = at;

@@ -40,7 +40,7 @@ loop-again c =
     let after-check-number : tie.After-check-number Inv-loop μ-loop = search needs in
     let start : tie.Start Inv-loop μ-loop = search needs in let a = start .args in
     let t = at-loop .loop in
-    fields-next (now (a .line)) (a .start) (now (a .mosts)) (t .values) (t .end) (t .i) (t .inv) _ _ _ (search needs) (search needs) (after-piece-end .piece-end .ensures .0) (after-read-number .read-number .ensures) (after-check-number .check-number .ensures) (c .if2 .left) (after-piece-end .piece-end .ensures .2)
+    fields-next (now (a .line)) (a .start) (now (a .mosts)) (t .values) (t .end) (t .i) (t .inv) _ _ _ (search needs) (search needs) (after-piece-end .piece-end .ensures .0) (after-read-number .read-number .ensures) (after-check-number .check-number .ensures) (c .if2 .left) (omega (arith, after-piece-end .piece-end .ensures .2))
 
 returns-3 : tie.Need-returns-3 Inv-loop μ-loop
 returns-3 c =

@@ -2,7 +2,7 @@
 use Rattle.base.proofs.Prelude.{ℕ, subst, List, needs}
 use Rattle.text.specs.Pieces.{fields}
 use Rattle.sheet_table.specs.Fields.{comma}
-use Rattle.sheet_table.specs.Steps.{SizesOf}
+use Rattle.sheet_table.specs.Workers.Steps.{SizesOf}
 use Rattle.sheet_table.proofs.lines.read_first.Statement.{statement}
 use Rattle.sheet_table.proofs.lines.read_first.Tie as tie
 

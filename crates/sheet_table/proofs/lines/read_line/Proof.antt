@@ -3,7 +3,7 @@ use Rattle.base.proofs.Prelude.{ℕ, _≡_, sym, _∙_, subst, List, arith, len
 use Rattle.text.specs.Pieces.{fields}
 use Rattle.sheet_table.specs.Fields.{comma, recordKey, recordKw}
 use Rattle.sheet_table.specs.Lines.{bare}
-use Rattle.sheet_table.specs.Steps.{EntryOf}
+use Rattle.sheet_table.specs.Workers.Steps.{EntryOf}
 use Rattle.sheet_table.proofs.ReadingLaws.{bare-size, empty-read, over-read, flaw-read, entry-read, says-none, says-one}
 use Rattle.sheet_table.proofs.lines.read_line.Statement.{statement}
 use Rattle.sheet_table.proofs.lines.read_line.Tie as tie

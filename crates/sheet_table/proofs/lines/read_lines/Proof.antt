@@ -1,5 +1,5 @@
 -- `lines::read_lines` meets its contract: what is left of the text decides, and the records read so far stand (`ReadingLaws`).
-use Rattle.base.proofs.Prelude.{_-_, length, now, needs}
+use Rattle.base.proofs.Prelude.{_-_, arith, length, now, needs}
 use Rattle.sheet_table.proofs.ReadingLaws.{Lines, lines-none, stopped-read, all-read, lines-next}
 use Rattle.sheet_table.proofs.lines.read_lines.Statement.{statement}
 use Rattle.sheet_table.proofs.lines.read_lines.Tie as tie
@@ -34,7 +34,7 @@ loop-again c =
     let after-piece-end : tie.After-piece-end Inv-loop μ-loop = search needs in
     let start : tie.Start Inv-loop μ-loop = search needs in let a = start .args in
     let t = at-loop .loop in
-    lines-next (now (a .text)) (a .start) (t .keys) (t .kws) (t .end) (t .read) (t .inv) _ _ _ _ (else1 .if1 .left) (search needs) (after-piece-end .piece-end .ensures .0) (after-piece-end .piece-end .ensures .2) (c .read-line .ensures .1) (c .read-line .ensures .2) (c .read-line .ensures .0) (c .read-line .ensures .3)
+    lines-next (now (a .text)) (a .start) (t .keys) (t .kws) (t .end) (t .read) (t .inv) _ _ _ _ (else1 .if1 .left) (search needs) (after-piece-end .piece-end .ensures .0) (omega (arith, after-piece-end .piece-end .ensures .2)) (c .read-line .ensures .1) (c .read-line .ensures .2) (c .read-line .ensures .0) (c .read-line .ensures .3)
 
 pub read-lines-spec : {M : Type 1} → statement M
 read-lines-spec =

@@ -1,7 +1,7 @@
 -- `rows::put_line` meets its contract: the line is made in a buffer, then copied.
 use Rattle.base.proofs.Prelude.{ℕ, ap, subst, List, arith, length, now, needs}
 use Rattle.sheet_table.specs.Fields.{comma}
-use Rattle.sheet_table.specs.Steps.{Put}
+use Rattle.sheet_table.specs.Workers.Steps.{Put}
 use Rattle.text.proofs.PutLaws.{put-fits}
 use Rattle.sheet_table.proofs.RowLaws.{line-part}
 use Rattle.sheet_table.proofs.rows.put_line.Statement.{statement}

@@ -5,7 +5,7 @@ use Rattle.sheet_records.specs.Sheet.{count}
 use Rattle.sheet_records.specs.Reading.{readAt, readOf}
 use Rattle.sheet_records.proofs.ReadingLaws.{RecordRead, of-whole, record-read, at-end}
 use Rattle.sheet_records.proofs.RefusalLaws.{whole, counted}
-use Rattle.sheet_table.specs.Steps.{Put}
+use Rattle.sheet_table.specs.Workers.Steps.{Put}
 use Rattle.sheet_table.specs.Table.{rowsOf}
 use Rattle.sheet_table.proofs.RowLaws.{rows-few, rows-none, rows-turn}
 use Rattle.sheet_table.proofs.rows.put_rows.Statement.{statement}

@@ -1,10 +1,11 @@
--- What the workers leave, step by step.
-use Prim.Native.Nat.{ℕ, suc, _+_, _≤_, _<_}
+-- What reading and writing a line leave, step by step.
+use Prim.Native.Nat.{ℕ, suc, _+_, _*_, _≤_, _<_}
 use mathlib.Core.Path.{_≡_}
 use mathlib.Core.List.{List, [], _++_, map}
 use lib.Dec.{ltb}
 use lib.ListN.{length, take, drop}
 use Rattle.base.specs.Choice.{pick}
+use Rattle.base.specs.Limits.{mostRecords}
 use Rattle.base.specs.Words.{at}
 use Rattle.text.specs.Written.{written}
 use Rattle.text.specs.Pieces.{fields}
@@ -15,6 +16,20 @@ use Rattle.sheet_table.specs.Lines.{bare, ofRecords}
 use Rattle.sheet_table.specs.declared.fields.Checked.{Checked}
 use Rattle.sheet_table.specs.declared.fields.Entry.{Entry}
 use Rattle.sheet_table.specs.declared.fields.Sizes.{Sizes}
+
+-- the fields of a record after its kind
+abbrev pub fieldsPastKind : ℕ
+fieldsPastKind = 5
+
+-- the most bytes of the line of the sizes, of a record's line, and of a whole table
+abbrev pub sizesBytes : ℕ
+sizesBytes = 22
+
+abbrev pub rowBytes : ℕ
+rowBytes = 34
+
+abbrev pub tableBytes : ℕ
+tableBytes = sizesBytes + rowBytes * mostRecords
 
 -- a text from a place on, and the place after it
 abbrev pub Put : ℕ → List ℕ → ℕ → List ℕ → List ℕ → Type 0
@@ -35,12 +50,14 @@ ValuesAre n mosts fields values = (j : ℕ) → j < n → (at values j ≡ numbe
 -- the sizes that were read, or their first fault
 abbrev pub SizesOf : List (List ℕ) → Sizes → Type 0
 SizesOf fields sizes =
-    (sizes .flaw ≡ sizesFlaw fields) × (sizes .flaw .fault ≡ 0 → (sizes .interties ≡ numberAt fields 0) × (sizes .holders ≡ numberAt fields 1))
+    (sizes .flaw ≡ sizesFlaw fields)
+    × (sizes .flaw .fault ≡ 0 → (sizes .interties ≡ numberAt fields 0) × (sizes .holders ≡ numberAt fields 1))
 
 -- a record that was read, or its first fault
 abbrev pub EntryOf : List (List ℕ) → Entry → Type 0
 EntryOf fields entry =
-    (entry .flaw ≡ recordFlaw fields) × (entry .flaw .fault ≡ 0 → (entry .key ≡ recordKey fields) × (entry .kw ≡ recordKw fields))
+    (entry .flaw ≡ recordFlaw fields)
+    × (entry .flaw .fault ≡ 0 → (entry .key ≡ recordKey fields) × (entry .kw ≡ recordKw fields))
 
 -- the lines past one that ends at a place
 unfoldable pub linesPast : ℕ → List ℕ → List (List ℕ)
