@@ -4,7 +4,7 @@ use libc::STDERR_FILENO;
 use libc::STDIN_FILENO;
 use libc::STDOUT_FILENO;
 use sheet_table::Converted;
-use sheet_table::SHEET_BYTES;
+use sheet_table::MOST_SHEET_BYTES;
 use sheet_table::TABLE_BYTES;
 
 // Room for the longest text that is read, 131,072 bytes, and for one byte more, by which a longer one is told from it.
@@ -46,7 +46,7 @@ fn convert_input() {
 }
 
 fn write_sheet(text: &[u8]) {
-    let mut sheet = [0u8; SHEET_BYTES];
+    let mut sheet = [0u8; MOST_SHEET_BYTES];
     let converted = sheet_table::to_sheet(text, &mut sheet);
     if converted.fault != 0 {
         say_fault(converted);
