@@ -27,7 +27,8 @@ fn add_lock(
     kws: &mut [u32; PLACES],
     ranks: &mut [u32; HOLDERS],
 ) -> usize
-    requires { ⌜ (holder < mostHolders) × (intertie < mostInterties) × Bounded (now ranks) place (mostRecords + mostInterties * holder + intertie) ⌝ }
+    requires { ⌜ (holder < mostHolders) × (intertie < mostInterties)
+        × Bounded (now ranks) place (mostRecords + mostInterties * holder + intertie) ⌝ }
     ensures { λ r. ⌜ Bounded (now (ranks .exit)) r (mostRecords + mostInterties * holder + intertie + 1)
         × ((l : List Line) → Drafted (now (keys .entry)) (now (kws .entry)) (now (ranks .entry)) place l
         → Drafted (now (keys .exit)) (now (kws .exit)) (now (ranks .exit)) r (withLock (now (state .entry)) holder intertie l)) ⌝ }
@@ -53,7 +54,8 @@ fn add_holder_locks(
     kws: &mut [u32; PLACES],
     ranks: &mut [u32; HOLDERS],
 ) -> usize
-    requires { ⌜ (holder < mostHolders) × (interties (now state) ≤ mostInterties) × Bounded (now ranks) place (mostRecords + mostInterties * holder) ⌝ }
+    requires { ⌜ (holder < mostHolders) × (interties (now state) ≤ mostInterties)
+        × Bounded (now ranks) place (mostRecords + mostInterties * holder) ⌝ }
     ensures { λ r. ⌜ Bounded (now (ranks .exit)) r (mostRecords + mostInterties * (holder + 1))
         × ((l : List Line) → Drafted (now (keys .entry)) (now (kws .entry)) (now (ranks .entry)) place l
         → Drafted (now (keys .exit)) (now (kws .exit)) (now (ranks .exit)) r

@@ -1,4 +1,4 @@
--- Numbers 2, 3 and 4 as they are decided from the sizes and the tables.
+-- Refusals 2, 3 and 4 as they are decided from the sizes and the tables.
 use Prim.Native.Nat.{ℕ, _+_, _*_, _≤_, _<_, zero-le}
 use mathlib.Core.Path.{_≡_, refl, sym, ap, _∙_}
 use mathlib.Core.Bool.{Bool, true, false, _&&_, not}
@@ -80,7 +80,7 @@ modest s few bytes j =
     (mul-le-mul-right 4_294_967_295 few)))
     (le-or-lt slots j)
 
--- numbers 3 and 4 from what the code has read: the sizes, the tables, and the tests on them
+-- refusals 3 and 4 from what the code has read: the sizes, the tables, and the tests on them
 module _ (s : List ℕ) (whole : badLength s ≡ false) (sizes : badSizes s ≡ false) (H I : ℕ) (eh : H ≡ holders s) (ei : I ≡ interties s) where
   pub rules-decided : (stand b : Bool) (counts : List ℕ) → stand ≡ recordsStand s → counts ≡ countTable s → b ≡ tableRulesHold stand counts H I → b ≡ rulesHold s
   rules-decided stand b counts es ec eb =

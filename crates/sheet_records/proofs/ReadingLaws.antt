@@ -42,7 +42,7 @@ pub of-next : (s : List ℕ) (n k key kw : ℕ) → n ≤ 1024 → length s ≡ 
 unfolding readOf
 of-next s n k key kw few exact h p q = simp (le-ltb 1024 n few, eq-eqb (length s) (12 + 8 * n) exact, lt-leb n k h, p, q)
 
--- in a sheet that number 1 lets pass these are its records
+-- in a sheet that refusal 1 lets pass these are its records
 pub of-whole : (s : List ℕ) (n k : ℕ) → Whole s n → readOf s n k ≡ readAt s k
 unfolding readOf readAt
 of-whole s n k w =

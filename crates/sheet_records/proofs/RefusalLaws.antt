@@ -1,4 +1,4 @@
--- What the tests of numbers 1 and 2 say in plain facts.
+-- What the tests of refusals 1 and 2 say in plain facts.
 use Prim.Native.Nat.{ℕ, _+_, _*_, _≤_, _<_}
 use mathlib.Core.Path.{_≡_, refl, sym, _∙_}
 use mathlib.Core.Bool.{Bool, true, false, _||_, not, true≢false}
@@ -16,7 +16,7 @@ neither : (a b : Bool) → a || b ≡ false → (a ≡ false) × (b ≡ false)
 neither true b e = absurd (true≢false e)
 neither false b e = (refl, e)
 
--- number 1 as it is decided, with n for the count that was read
+-- refusal 1 as it is decided, with n for the count that was read
 pub short-is-bad : (s : List ℕ) → length s < 12 → true ≡ badLength s
 unfolding badLength
 short-is-bad s h = simp (lt-ltb (length s) 12 h)
@@ -29,7 +29,7 @@ pub length-decides : (s : List ℕ) (n : ℕ) → n ≡ count s → 12 ≤ lengt
 unfolding badLength
 length-decides s n e h k = simp (← e, le-ltb (length s) 12 h, le-ltb 1024 n k)
 
--- what the test of number 1 says, with n for the count that was read
+-- what the test of refusal 1 says, with n for the count that was read
 pub whole : (s : List ℕ) (n : ℕ) → badLength s ≡ false → n ≡ count s → Whole s n
 unfolding badLength
 whole s n e m =
@@ -53,7 +53,7 @@ long-enough s n x e m =
 pub counted : (s : List ℕ) (n : ℕ) → badLength s ≡ false → n ≡ pick (ltb (length s) 12) 0 (count s) → Whole s n
 counted s n e m = whole s n e (long-enough s n (count s) e m)
 
--- the sizes of a sheet that number 2 lets pass
+-- the sizes of a sheet that refusal 2 lets pass
 pub record Sized (s : List ℕ) : Type 0 where
   pub some-interties : 1 ≤ interties s
   pub few-interties : interties s ≤ 48

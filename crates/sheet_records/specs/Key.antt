@@ -17,22 +17,6 @@ keyRanks = 256
 abbrev pub keyYears : ℕ
 keyYears = 256
 
--- the most that a field can say
-abbrev pub mostKind : ℕ
-mostKind = 15
-
-abbrev pub mostHolderNumber : ℕ
-mostHolderNumber = 63
-
-abbrev pub mostIntertieNumber : ℕ
-mostIntertieNumber = 63
-
-abbrev pub mostRankNumber : ℕ
-mostRankNumber = 255
-
-abbrev pub mostYearsNumber : ℕ
-mostYearsNumber = 255
-
 -- what a field counts in a key, where a kind counts 1
 abbrev pub holderUnit : ℕ
 holderUnit = 16

@@ -24,4 +24,6 @@ readAt s k = pick (badLength s || leb (count s) k) End (Next (recordAt s k) (rec
 unfoldable pub readOf : List ℕ → (n k : ℕ) → Read
 readOf s n k =
     pick (ltb mostRecords n || not (eqb (length s) (sizeOf n)) || leb n k) End
-    (Next (record { key = wordAt s (sheetHeaderBytes + wordSize * k); kw = wordAt s (sheetHeaderBytes + wordSize * n + wordSize * k) }) (record { at = k + 1 }))
+    (Next
+    (record { key = wordAt s (sheetHeaderBytes + wordSize * k); kw = wordAt s (sheetHeaderBytes + wordSize * n + wordSize * k) })
+    (record { at = k + 1 }))

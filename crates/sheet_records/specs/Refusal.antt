@@ -32,7 +32,8 @@ pub record Whole (s : List ℕ) (n : ℕ) : Type 0 where
 unfoldable pub badSizes : List ℕ → Bool
 badSizes s = not (within 1 mostInterties (interties s) && within 1 mostHolders (holders s))
 
--- fields of a key: one that its kind names says some holder or intertie of a sheet of I interties and H holders, some rank, some years; one that it does not name is 0
+-- a field that a kind names says some holder or intertie of a sheet of I interties and H holders, some rank, some years;
+-- one that it does not name is 0
 abbrev pub someHolder : ℕ → ℕ → Bool
 someHolder H key = ltb (holderOf key) H
 

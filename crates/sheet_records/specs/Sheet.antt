@@ -110,6 +110,7 @@ preRa s h i = kwOf s (isPreRa h i)
 unfoldable pub newUseKw : List ℕ → ℕ → ℕ → ℕ
 newUseKw s h r = kwOf s (isNewUse h r)
 
--- the intertie of holder h's New Use commitment with rank r, 0 where it has none: no rank stands twice, so the sum over the records with it has one term at most
+-- the intertie of holder h's New Use commitment with rank r, 0 where it has none; no rank stands twice, so the sum over the
+-- records with it has one term at most
 unfoldable pub newUseIntertie : List ℕ → ℕ → ℕ → ℕ
 newUseIntertie s h r = sumOver s (isNewUse h r) (λ k. intertieOf (keyAt s k))

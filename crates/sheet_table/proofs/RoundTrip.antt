@@ -156,7 +156,7 @@ module _ (s : List ℕ) (bytes : (i : ℕ) → at s i < 256) where
       let q = word-below s (12 + 4 * count s + 4 * j) bytes in
       ap recordKw (Row.text-fields (keyAt s j) (kwAt s j) k q) ∙ Row.kw-back (keyAt s j) (kwAt s j) k q
 
-  -- the whole text of a sheet that number 1 lets pass
+  -- the whole text of a sheet that refusal 1 lets pass
   module _ (passes : badLength s ≡ false) where
     sheet : Whole s (count s)
     sheet = whole s (count s) passes refl

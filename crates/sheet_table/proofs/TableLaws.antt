@@ -1,4 +1,4 @@
--- The text of a sheet by cases: refused by number 1, or written.
+-- The text of a sheet by cases: refused by 1, or written.
 use Prim.Native.Nat.{ℕ, _≤_}
 use mathlib.Core.Path.{_≡_, refl, sym, ap, subst, _∙_}
 use mathlib.Core.Bool.{Bool, true, false}

@@ -1,5 +1,5 @@
 -- The fields of a line: what is at fault with them, and what they say.
-use Prim.Native.Nat.{ℕ, suc}
+use Prim.Native.Nat.{ℕ, suc, _-_}
 use Prim.Native.Char.{code}
 use mathlib.Core.Bool.{true, false}
 use mathlib.Core.List.{List, [], _∷_}
@@ -10,7 +10,7 @@ use Rattle.text.specs.Decimal.{numberOf}
 use Rattle.text.specs.declared.Number.{Number}
 use Rattle.text.specs.declared.Number.the-variants.{Value, Over, Bad}
 use Rattle.base.specs.Kinds.{newUseKind}
-use Rattle.sheet_records.specs.Key.{mostKind, mostHolderNumber, mostIntertieNumber, mostRankNumber, mostYearsNumber, keyFrom}
+use Rattle.sheet_records.specs.Key.{keyKinds, keyHolders, keyInterties, keyRanks, keyYears, keyFrom}
 use Rattle.sheet_records.specs.Sheet.{mostWord}
 use Rattle.sheet_table.specs.Faults.{notNumber, tooLarge, wrongFields}
 use Rattle.sheet_table.specs.Kinds.{named}
@@ -68,11 +68,11 @@ numberAt fields i = valueOf (numberOf (fieldAt fields i))
 unfoldable pub sizesFlaw : List (List ℕ) → Flaw
 sizesFlaw fields = lineFlaw (numberOf (fieldAt fields 0)) mostWord (mostWord ∷ []) fields
 
--- a record: kind, holder, intertie, rank, years, kilowatts
+-- a record: kind, holder, intertie, rank and years within their widths, kilowatts
 unfoldable pub recordFlaw : List (List ℕ) → Flaw
 recordFlaw fields =
-    lineFlaw (kindIn (fieldAt fields 0)) mostKind
-    (mostHolderNumber ∷ mostIntertieNumber ∷ mostRankNumber ∷ mostYearsNumber ∷ mostWord ∷ []) fields
+    lineFlaw (kindIn (fieldAt fields 0)) (keyKinds - 1)
+    ((keyHolders - 1) ∷ (keyInterties - 1) ∷ (keyRanks - 1) ∷ (keyYears - 1) ∷ mostWord ∷ []) fields
 
 -- its key
 unfoldable pub recordKey : List (List ℕ) → ℕ

@@ -5,10 +5,10 @@ use sheet_records::key;
 use sheet_records::words::MOST_WORD;
 use text::Number;
 ghost use mathlib.Core.Path.{_≡_};
-ghost use Prim.Native.Nat.{_≤_};
+ghost use Prim.Native.Nat.{_≤_, _<_};
 ghost use lib.ListN.{length};
 ghost use Rattle.text.specs.Pieces.{fields};
-ghost use Rattle.sheet_records.specs.Key.{mostKind, mostHolderNumber, mostIntertieNumber, mostRankNumber, mostYearsNumber, keyFrom};
+ghost use Rattle.sheet_records.specs.Key.{keyKinds, keyHolders, keyInterties, keyRanks, keyYears, keyFrom};
 ghost use Rattle.sheet_table.specs.Fields.{comma, kindIn, fieldsFlaw};
 ghost use Rattle.sheet_table.specs.Workers.Steps.{fieldsPastKind, checkedAs, piecesPast, ValuesAre, SizesOf, EntryOf};
 
@@ -119,8 +119,8 @@ fn read_values(line: &[u8], start: usize, mosts: &[u32], values: &mut [u32]) -> 
 
 // A key from fields within their widths.
 fn pack(kind: u32, holder: u32, intertie: u32, rank: u32, years: u32) -> u32
-    requires { ⌜ (kind ≤ mostKind) × (holder ≤ mostHolderNumber) × (intertie ≤ mostIntertieNumber)
-        × (rank ≤ mostRankNumber) × (years ≤ mostYearsNumber) ⌝ }
+    requires { ⌜ (kind < keyKinds) × (holder < keyHolders) × (intertie < keyInterties)
+        × (rank < keyRanks) × (years < keyYears) ⌝ }
     ensures { λ r. ⌜ r ≡ keyFrom kind holder intertie rank years ⌝ }
 {
     key::pack(kind, holder, intertie, rank, years)

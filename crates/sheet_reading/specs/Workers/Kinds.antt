@@ -1,4 +1,5 @@
--- What a kind of record says, field by field: the fields that it names, and the quantities that stand. Of all fields together it is the rule of its kind (`recordStands`).
+-- What a kind of record says, field by field: the fields that it names, and the quantities that stand. Together it is the
+-- rule of its kind (`recordStands`).
 use Prim.Native.Nat.{ℕ}
 use mathlib.Core.Bool.{Bool, _||_}
 use lib.Dec.{eqb}
@@ -7,6 +8,7 @@ use Rattle.base.specs.Limits.{mostKw, mostLoadShare}
 use Rattle.base.specs.Kinds.{limitKind, outsideRightKind, loadShareKind, existingContractKind, newUseKind}
 use Rattle.sheet_records.specs.Refusal.{within}
 
+-- whether it names a holder, an intertie, a rank, years
 abbrev pub namesHolder : ℕ → Bool
 namesHolder k = within loadShareKind newUseKind k
 

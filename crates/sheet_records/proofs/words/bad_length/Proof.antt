@@ -1,4 +1,4 @@
--- `sheet_records::words::bad_length` meets its contract: each test decides its part of number 1.
+-- `sheet_records::words::bad_length` meets its contract: each test decides its part of refusal 1.
 use Rattle.base.proofs.Prelude.{needs}
 use Rattle.sheet_records.proofs.RefusalLaws.{short-is-bad, many-is-bad, length-decides}
 use Rattle.sheet_records.proofs.words.bad_length.Statement.{statement}
