@@ -7,6 +7,7 @@ use native.Mathlib.Omega.{arith}
 use lib.ListN.{length, set, take, drop}
 use lib.Seq.{sets, length-sets, sets-eq, take-suc, length-take-le}
 use Rattle.base.specs.Words.{at}
+use Rattle.base.proofs.WordLaws.{sets-more}
 use Rattle.text.specs.Written.{written}
 
 -- a text that fits stands between what was before it and what was past it
@@ -26,10 +27,7 @@ written-none place l = refl
 -- a text after another is one text
 pub written-more : (place : ℕ) (t u l : List ℕ) → written (place + length t) u (written place t l) ≡ written place (t ++ u) l
 unfolding written
-written-more place [] u l = ap (λ (k : ℕ). sets l k u) (omega arith)
-written-more place (byte ∷ t) u l =
-    ap (λ (k : ℕ). sets (sets (set l place byte) (suc place) t) k u) (omega arith)
-    ∙ written-more (suc place) t u (set l place byte)
+written-more place t u l = sets-more place t u l
 
 -- the same, as calls leave it: the first wrote t and answered next, the second wrote u from there
 pub written-then : (place next : ℕ) (t u l m n : List ℕ) → next ≡ place + length t → m ≡ written place t l → n ≡ written next u m →
