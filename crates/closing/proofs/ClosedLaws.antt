@@ -96,7 +96,7 @@ state-is s unassigned unplaced table t1 t2 t3 t4 t5 I H stage long o d w e f g a
     let e4 : t4 ≡ fillPairs 237 H I (λ h i. 0) t3 = cleared-pairs t3 t4 237 H I a4 (omega arith) (omega arith) low few in
     rw (a5, e4, e3, e2, e1, e, f, g)
 
--- what number 0 says
+-- what holds where no refusal applies
 pub closable : (s grants : List ℕ) → closeRefusal s grants ≡ 0 → Closable s × (1536 ≤ length grants)
 unfolding closeRefusal
 closable s grants e =

@@ -1,4 +1,4 @@
--- A taking that is done: what its number 0 says, and what it changes. The state after it is orderly.
+-- A taking that is done: what it finds where no refusal applies, and what it changes. The state after it is orderly.
 use Prim.Native.Nat.{ℕ, _+_, _-_, _≤_, _<_}
 use mathlib.Core.Path.{_≡_, ap, _∙_}
 use mathlib.Core.Bool.{not, _||_}

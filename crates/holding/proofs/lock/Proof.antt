@@ -1,4 +1,4 @@
--- `lock` meets its contract: a refusal leaves the state, and number 0 stores the kW and the term.
+-- `lock` meets its contract: a refusal leaves the state; else it stores the kW and the term.
 use Rattle.base.proofs.Prelude.{sym, ap, _∙_, arith, set, now, needs}
 use Rattle.call.proofs.LadderLaws.{answers-refused, answers-done}
 use Rattle.state.specs.Layout.{termAt}

@@ -1,4 +1,4 @@
--- `move_kw` meets its contract: a refusal leaves the state, and number 0 stores what both holders have placed.
+-- `move_kw` meets its contract: a refusal leaves the state; else it stores what both holders have placed.
 use Rattle.base.proofs.Prelude.{sym, _∙_, arith, now, needs}
 use Rattle.call.proofs.LadderLaws.{answers-refused, answers-done}
 use Rattle.call.proofs.StoreLaws.{carried}

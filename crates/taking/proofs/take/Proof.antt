@@ -1,4 +1,4 @@
--- `take` meets its contract: a refusal leaves the state, and number 0 gives the kW and keeps the calendar.
+-- `take` meets its contract: a refusal leaves the state; else it gives the kW and keeps the calendar.
 use Rattle.base.proofs.Prelude.{sym, ap, _∙_, arith, now, needs}
 use Rattle.base.specs.Answers.{granted}
 use Rattle.call.proofs.LadderLaws.{answers-refused, answers-done}
