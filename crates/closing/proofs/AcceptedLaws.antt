@@ -13,7 +13,7 @@ use Rattle.intertie_shares.proofs.HolderLaws.{Ranged, Made}
 use Rattle.intertie_shares.proofs.IntertieLaws.{made-on}
 use Rattle.state.specs.Layout.{interties, holders, loadShareOf, stageOf, unassignedOf, sellersOf, pendingOf}
 use Rattle.state.proofs.OrderlyLaws.{Orderly, unassigned-most, unplaced-most, pair-pending-most}
-use Rattle.closing.specs.Weight.{sellerBit, sellersCount, sellersLoad, averageLoad, weightOf}
+use Rattle.weights.specs.Weight.{sellerBit, sellersCount, sellersLoad, averageLoad, weightOf}
 use Rattle.closing.specs.Close.{closeGrant, closeKw, grantedOn}
 use Rattle.closing.proofs.UniformLaws.{shared-kept, uniform-grant}
 use Rattle.closing.proofs.GrantLaws.{close-kw}

@@ -11,7 +11,7 @@ use Rattle.intertie_shares.specs.Pairs.{atPair}
 use Rattle.intertie_shares.specs.Rule.{shareOutOn, grantOn}
 use Rattle.state.specs.Layout.{interties, holders, unassignedOf, unplacedOf, pendingOf}
 use Rattle.state.proofs.OrderlyLaws.{Orderly}
-use Rattle.closing.specs.Weight.{weightOf}
+use Rattle.weights.specs.Weight.{weightOf}
 use Rattle.closing.specs.Close.{sharesOut, closeGrant, closeKw, grantedTo, grantedOn}
 use Rattle.closing.specs.Workers.Work.{Granted}
 use Rattle.closing.proofs.UniformLaws.{shared-kept}

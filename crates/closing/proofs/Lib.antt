@@ -1,6 +1,5 @@
 pub mod UniformLaws
 pub mod TableLaws
-pub mod WeightLaws
 pub mod SharingLaws
 pub mod StoreLaws
 pub mod ClosedLaws

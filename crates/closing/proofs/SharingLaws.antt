@@ -18,7 +18,7 @@ use Rattle.intertie_shares.proofs.OutcomeLaws.{each-done}
 use Rattle.intertie_shares.proofs.Promise.{Promise, promise, over-same}
 use Rattle.state.specs.Layout.{place, interties, holders, stageOf, unassignedOf, pendingOf}
 use Rattle.state.proofs.OrderlyLaws.{Orderly}
-use Rattle.closing.specs.Weight.{weightOf}
+use Rattle.weights.specs.Weight.{weightOf}
 use Rattle.closing.specs.Close.{closeGrant, closeKw, closePasses}
 use Rattle.closing.specs.Workers.Work.{fillFrom, Granted}
 use Rattle.closing.proofs.UniformLaws.{uniform-grant, uniform-kw, uniform-passes}

@@ -15,7 +15,7 @@ use Rattle.intertie_shares.proofs.HolderLaws.{Kept}
 use Rattle.intertie_shares.proofs.IntertieLaws.{kept-on, passes-most}
 use Rattle.state.specs.Layout.{interties, holders, stageOf, unassignedOf, pendingOf}
 use Rattle.state.proofs.OrderlyLaws.{Orderly, no-pair-pending}
-use Rattle.closing.specs.Weight.{weightOf}
+use Rattle.weights.specs.Weight.{weightOf}
 use Rattle.closing.specs.Close.{sharesOut, closeGrant, closeKw, closePasses}
 
 -- what the share-out on intertie i keeps

@@ -19,7 +19,7 @@ use Rattle.state.specs.Orderly.{stateRefusal}
 use Rattle.state.specs.Layout.{unassignedRow, unplacedRow, placedRow, pendingRow}
 use Rattle.state_rows.specs.Rows.{fillRow, fillPairs}
 use Rattle.call.specs.Outcome.{orElse, whenever}
-use Rattle.closing.specs.Weight.{weightOf}
+use Rattle.weights.specs.Weight.{weightOf}
 
 -- the lowest number that applies, 0 if none: 5 for short grants or a short state, 6, 7
 unfoldable pub closeRefusal : List ℕ → List ℕ → ℕ

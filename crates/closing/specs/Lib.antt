@@ -1,3 +1,2 @@
-pub mod Weight
 pub mod Close
 pub mod Workers

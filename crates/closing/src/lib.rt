@@ -3,7 +3,6 @@ mod applying;
 mod buffer;
 mod sharing;
 mod tables;
-mod weights;
 
 use base::Answer;
 use base::limits::GRANTS_WORDS;

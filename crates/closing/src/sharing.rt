@@ -1,6 +1,5 @@
 // The share-outs of a closing: each intertie's unassigned kW over what is pending there.
 use super::tables;
-use super::weights;
 use base::Answer;
 use base::limits::MOST_HOLDERS;
 use base::limits::MOST_INTERTIES;

@@ -8,7 +8,7 @@ use Rattle.state.specs.Layout.{intertiesAt, holdersAt, limitAt, loadShareAt, st
 use Rattle.state.specs.Orderly.{stateRefusal, orderly, sizesInRange, stageInRange, limitsInRange, loadSharesInRange, balanced, lockedWithinPlaced, pendingWithinUnplaced, kwInRange, takingsInRange, sellersAreHolders, termsFit}
 use Rattle.trading.specs.Trade.{tradeRefusal, tradeState, trade}
 use Rattle.holding.proofs.Examples.{written}
-use Rattle.closing.specs.Weight.{sellersCount, sellersLoad, averageLoad, weightOf}
+use Rattle.weights.specs.Weight.{sellersCount, sellersLoad, averageLoad, weightOf}
 
 -- one intertie and three holders in stage 1: holder 0 has no load share, holder 1 has 50,000 and holder 2 has 30,000, each with 20 kW to sell
 unfoldable pub yearG : List ℕ

@@ -27,7 +27,7 @@ use Rattle.holding.specs.Lock as HoldingLock
 use Rattle.holding.specs.Move as HoldingMove
 use Rattle.taking.specs.Take as TakingTake
 use Rattle.closing.specs.Close as ClosingClose
-use Rattle.closing.specs.Weight as ClosingWeight
+use Rattle.weights.specs.Weight as ClosingWeight
 use Rattle.intertie_shares.specs.Rule as IntertiesRule
 use Rattle.lists.specs.Calls.{Call, trade, request, close, take, move, lock, result, after}
 use Rattle.lists.specs.Encoded.{numbered, kwOf, closingsBefore, callAt, firstCalls, callsOf, accepted}

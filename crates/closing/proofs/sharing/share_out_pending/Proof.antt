@@ -1,7 +1,8 @@
 -- `share_out_pending` meets its contract: pools, claims and weights are the state's, and the share-outs are those of the closing.
-use Rattle.base.proofs.Prelude.{_≤_, arith, now, needs}
+use Rattle.base.proofs.Prelude.{ℕ, List, length, replicate, sym, ap, _∙_, _≤_, arith, now, needs}
 use Rattle.state.proofs.OrderlyLaws.{refusal-none}
 use Rattle.closing.proofs.TableLaws.{length-zeros}
+use Rattle.weights.proofs.WeightLaws.{weighed-is, weighed-length}
 use Rattle.closing.proofs.SharingLaws.{pending-shared}
 use Rattle.closing.proofs.sharing.share_out_pending.Statement.{statement}
 use Rattle.closing.proofs.sharing.share_out_pending.Tie as tie
@@ -31,12 +32,17 @@ returns c =
     let p = the tie.Start (search needs) .pre in
     let o = refusal-none _ (p .0 .fit) in
     pending-shared (now (a .state)) (o .1) (p .0 .stage-most) _ _ _ _ _ (now (a .table)) _ _ (the tie.After-intertie-count (search needs) .intertie-count .ensures) (the tie.After-holder-count (search needs) .holder-count .ensures)
-    (the tie.After-read-row (search needs) .read-row .ensures) (the tie.After-read-pairs (search needs) .read-pairs .ensures) (omega (arith, the tie.After-read-pairs (search needs) .read-pairs .kept .1 .1 .1 .1 .0, length-zeros 1536)) (the tie.After-weigh (search needs) .weigh .ensures) (p .1)
+    (the tie.After-read-row (search needs) .read-row .ensures) (the tie.After-read-pairs (search needs) .read-pairs .ensures) (omega (arith, the tie.After-read-pairs (search needs) .read-pairs .kept .1 .1 .1 .1 .0, length-zeros 1536)) (the tie.After-weigh (search needs) .weigh .ensures ∙ weighed-is (now (a .state)) (replicate 32 0) (o .0) (o .1 .holders-most)) (p .1)
     (the tie.After-share-out-each (search needs) .share-out-each .ensures .0) (the tie.After-share-out-each (search needs) .share-out-each .ensures .1)
+
+weights-length : tie.Need-slice-aggregate-share-out-each-3
+weights-length c =
+    let start : tie.Start = search needs in
+    sym (ap (λ (w : List ℕ). length w) (the tie.After-weigh (search needs) .weigh .ensures) ∙ weighed-length (now (start .args .state)) (replicate 32 0) ∙ length-zeros 32)
 
 pub share-out-pending-spec : {M : Type 1} → statement M
 share-out-pending-spec =
-    tie.close (tie.spec (λ c κs. search needs) (λ c. search needs) (λ c κs. search needs) (λ c. search needs) (λ c. search needs) (λ c. search needs)
-    read-row-requires (λ c. search needs) (λ c. search needs) read-pairs-requires (λ c. search needs)
-    (λ c κs. search needs) (λ c. search needs) (λ c. search needs) (λ c. search needs) (λ c κs. search needs)
+    tie.close (tie.spec (λ c κs. search needs) (λ c. search needs) (λ c κs. search needs) (λ c. search needs)
+    (λ c. search needs) (λ c. search needs) read-row-requires (λ c. search needs) (λ c. search needs) read-pairs-requires
+    (λ c κs. search needs) (λ c. search needs) (λ c. search needs) weights-length (λ c κs. search needs)
     (λ c. search needs) returns)

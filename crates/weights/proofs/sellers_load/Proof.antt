@@ -2,9 +2,9 @@
 use Rattle.base.proofs.Prelude.{ℕ, _+_, _-_, _*_, _≤_, _≡_, sym, List, arith, now, needs, sumTo}
 use Rattle.state.specs.Layout.{loadShareOf}
 use Rattle.base.proofs.SumLaws.{sumTo-zero, sum-more, sum-done}
-use Rattle.closing.specs.Weight.{sellerBit}
-use Rattle.closing.proofs.weights.sellers_load.Statement.{statement}
-use Rattle.closing.proofs.weights.sellers_load.Tie as tie
+use Rattle.weights.specs.Weight.{sellerBit}
+use Rattle.weights.proofs.sellers_load.Statement.{statement}
+use Rattle.weights.proofs.sellers_load.Tie as tie
 
 -- what a holder adds
 abbrev counted : List ℕ → ℕ → ℕ → ℕ

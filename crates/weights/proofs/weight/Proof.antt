@@ -1,8 +1,8 @@
 -- `weight` meets its contract: the load share, or the average where it is 0.
 use Rattle.base.proofs.Prelude.{needs}
-use Rattle.closing.proofs.WeightLaws.{own-load, sellers-average}
-use Rattle.closing.proofs.weights.weight.Statement.{statement}
-use Rattle.closing.proofs.weights.weight.Tie as tie
+use Rattle.weights.proofs.WeightLaws.{own-load, sellers-average}
+use Rattle.weights.proofs.weight.Statement.{statement}
+use Rattle.weights.proofs.weight.Tie as tie
 
 returns : tie.Need-returns
 returns c = search sellers-average

@@ -1,8 +1,8 @@
 -- `load_if_seller` meets its contract: the bit is 0 or 1.
 use Rattle.base.proofs.Prelude.{refl, arith, needs}
-use Rattle.closing.proofs.WeightLaws.{bit-load}
-use Rattle.closing.proofs.weights.load_if_seller.Statement.{statement}
-use Rattle.closing.proofs.weights.load_if_seller.Tie as tie
+use Rattle.weights.proofs.WeightLaws.{bit-load}
+use Rattle.weights.proofs.load_if_seller.Statement.{statement}
+use Rattle.weights.proofs.load_if_seller.Tie as tie
 
 mul-result : tie.Need-mul-result
 mul-result c = omega (arith, bit-load (c .args .sellers) (c .args .holder) (c .args .load))

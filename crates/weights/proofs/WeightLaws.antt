@@ -5,13 +5,17 @@ use mathlib.Core.List.{List}
 use native.Mathlib.Nat.{mod-one, mod-eq-of-lt, mod-lt, div-zero}
 use native.Mathlib.Numerals.{one-add}
 use native.Mathlib.Omega.{arith}
-use lib.Bits.{bitOr}
 use lib.Count.{ones, ones-cat}
 use lib.Pow.{pow-pos, mod-pow-add}
-use borrow.Author.Tests.{ne-eqb}
+use lib.ListN.{length}
+use borrow.Author.Tests.{ne-eqb, le-leb}
+use Rattle.base.specs.Limits.{stateWords}
 use Rattle.base.specs.Sums.{sumTo}
+use Rattle.base.specs.Words.{fill}
+use Rattle.base.proofs.ChoiceLaws.{pick-by}
+use Rattle.base.proofs.WordLaws.{length-fill}
 use Rattle.state.specs.Layout.{holders, loadShareOf, sellersOf}
-use Rattle.closing.specs.Weight.{sellerBit, sellersCount, sellersLoad, averageLoad, weightOf}
+use Rattle.weights.specs.Weight.{sellerBit, sellersCount, sellersLoad, averageLoad, weightOf, weighable, weighed}
 
 bit-one : (bit : ℕ) → bit < 2 → ones bit ≡ bit
 unfolding ones
@@ -20,7 +24,7 @@ bit-one (suc zero) l = refl
 bit-one (suc (suc n)) l = absurd (omega arith)
 
 -- the ones of a mask's first n bits
-ones-of : (n mask : ℕ) → ones (mask % 2 ^ n) ≡ sumTo n (λ j. sellerBit mask j)
+pub ones-of : (n mask : ℕ) → ones (mask % 2 ^ n) ≡ sumTo n (λ j. sellerBit mask j)
 unfolding sumTo ones
 ones-of zero mask = ap ones (mod-one mask)
 ones-of (suc n) mask =
@@ -50,18 +54,18 @@ bit-load mask j load =
     by-bit (suc (suc n)) load l = absurd (omega arith)
 
 -- the average, from the sellers that were counted and their load shares: without sellers, and with some
-pub no-average : (s : List ℕ) (h count : ℕ) → count ≡ ones (sellersOf s h) → sellersOf s h < 2 ^ holders s → count ≡ 0 → 0 ≡ averageLoad s h
-unfolding averageLoad
-no-average s h count e l none =
-    let zero-count : sellersCount s h ≡ 0 = sym (ones-sellers s h l) ∙ sym e ∙ none in
-    sym (ap (λ k. sellersLoad s h / k) zero-count ∙ div-zero (sellersLoad s h))
+module _ (s : List ℕ) (h n mask count : ℕ) (a : n ≡ holders s) (b : mask ≡ sellersOf s h) (e : count ≡ ones (mask % 2 ^ n)) where
+  counted : count ≡ sellersCount s h
+  unfolding sellersCount
+  counted = e ∙ ones-of n mask ∙ rw (a, b)
 
-pub some-average : (s : List ℕ) (h n mask count load : ℕ) → n ≡ holders s → mask ≡ sellersOf s h → count ≡ ones mask → sellersOf s h < 2 ^ holders s →
-    load ≡ sumTo n (λ j. sellerBit mask j * loadShareOf s j) → load / count ≡ averageLoad s h
-unfolding averageLoad sellersLoad
-some-average s h n mask count load a b e l f =
-    let counted : count ≡ sellersCount s h = e ∙ ap ones b ∙ ones-sellers s h l in
-    rw (counted, f, a, b)
+  pub no-average : count ≡ 0 → 0 ≡ averageLoad s h
+  unfolding averageLoad
+  no-average none = sym (ap (λ k. sellersLoad s h / k) (sym counted ∙ none) ∙ div-zero (sellersLoad s h))
+
+  pub some-average : (load : ℕ) → load ≡ sumTo n (λ j. sellerBit mask j * loadShareOf s j) → load / count ≡ averageLoad s h
+  unfolding averageLoad sellersLoad
+  some-average load f = rw (counted, f, a, b)
 
 -- the weight: the load share, and the average where it is 0
 pub own-load : (s : List ℕ) (h load : ℕ) → load ≡ loadShareOf s h → (load ≡ 0 → ⊥) → load ≡ weightOf s h
@@ -71,3 +75,13 @@ own-load s h load e some = rw (← e, ne-eqb load 0 some)
 pub sellers-average : (s : List ℕ) (h load r : ℕ) → load ≡ loadShareOf s h → load ≡ 0 → r ≡ averageLoad s h → r ≡ weightOf s h
 unfolding weightOf
 sellers-average s h load r e none f = rw (← e, none) f
+
+-- what a state of its words and at most 32 holders gives
+pub weighed-is : (s l : List ℕ) → stateWords ≤ length s → holders s ≤ 32 → weighed s l ≡ fill (holders s) (weightOf s) l
+weighed-is s l long few = rw (le-leb stateWords (length s) long, le-leb (holders s) 32 few)
+
+pub weighed-length : (s l : List ℕ) → length (weighed s l) ≡ length l
+weighed-length s l =
+    pick-by (λ (w : List ℕ). length w ≡ length l) (weighable s) (fill (holders s) (weightOf s) l) l
+    (λ _. length-fill (holders s) (weightOf s) l)
+    (λ _. refl)

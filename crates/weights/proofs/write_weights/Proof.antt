@@ -1,10 +1,9 @@
--- `weigh` meets its contract: after m turns the first m holders have their weights.
+-- `write_weights` meets its contract: after m turns the first m holders have their weights.
 use Rattle.base.proofs.Prelude.{_-_, _≤_, _≡_, refl, sym, ap, _∙_, arith, length, length-set, now, needs, fill}
 use Rattle.base.proofs.WordLaws.{fill-zero, fill-turn}
-use Rattle.state.proofs.OrderlyLaws.{refusal-none}
-use Rattle.closing.specs.Weight.{weightOf}
-use Rattle.closing.proofs.weights.weigh.Statement.{statement}
-use Rattle.closing.proofs.weights.weigh.Tie as tie
+use Rattle.weights.specs.Weight.{weightOf}
+use Rattle.weights.proofs.write_weights.Statement.{statement}
+use Rattle.weights.proofs.write_weights.Tie as tie
 
 abbrev Inv-loop : tie.InvT-loop
 Inv-loop state weights₀ holders holder₀ weights holder =
@@ -16,13 +15,12 @@ abbrev μ-loop : tie.MeasureT-loop
 loop-holds : tie.Need-loop-holds Inv-loop μ-loop
 loop-holds c = (search needs, refl, sym (fill-zero _ _))
 
-slice-write-weights : tie.Need-slice-write-weights Inv-loop μ-loop
-slice-write-weights c =
+element-write-weights : tie.Need-element-write-weights Inv-loop μ-loop
+element-write-weights c =
     let start : tie.Start Inv-loop μ-loop = search needs in
     let after-holder-count : tie.After-holder-count Inv-loop μ-loop = search needs in
     let at-loop : tie.At-loop Inv-loop μ-loop = search needs in
-    let o = refusal-none _ (start .pre .0 .fit) .1 in
-    omega (arith, o .holders-most, after-holder-count .holder-count .ensures, at-loop .loop .inv .1, start .pre .1)
+    omega (arith, start .pre .1, after-holder-count .holder-count .ensures, at-loop .loop .inv .1)
 
 loop-again : tie.Need-loop-again Inv-loop μ-loop
 loop-again c =
@@ -40,8 +38,7 @@ returns c =
     let end : c .before .loop .holder ≡ after-holder-count .holder-count .result = omega arith in
     c .before .loop .inv .2 ∙ ap (λ n. fill n (weightOf (now (a .state))) (now (a .weights))) (end ∙ after-holder-count .holder-count .ensures)
 
-pub weigh-spec : {M : Type 1} → statement M
-weigh-spec =
+pub write-weights-spec : {M : Type 1} → statement M
+write-weights-spec =
     tie.close (tie.spec Inv-loop μ-loop (λ c κs. search needs) loop-holds (λ c κs. search needs) (λ c. search needs)
-    (λ c. search needs) slice-write-weights (λ c. search needs) (λ c. search needs) loop-again
-    (λ c. c .before .loop .inv .1) returns)
+    (λ c. search needs) element-write-weights (λ c. search needs) (λ c. search needs) loop-again returns)

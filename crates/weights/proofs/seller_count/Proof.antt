@@ -1,8 +1,8 @@
 -- `seller_count` meets its contract: a mask of 32 bits has at most 32 ones.
 use Rattle.base.proofs.Prelude.{arith, needs}
 use lib.Count.{ones-le}
-use Rattle.closing.proofs.weights.seller_count.Statement.{statement}
-use Rattle.closing.proofs.weights.seller_count.Tie as tie
+use Rattle.weights.proofs.seller_count.Statement.{statement}
+use Rattle.weights.proofs.seller_count.Tie as tie
 
 returns : tie.Need-returns
 returns c = search needs
