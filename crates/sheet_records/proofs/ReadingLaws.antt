@@ -5,7 +5,7 @@ use mathlib.Core.Bool.{Bool, true, false}
 use mathlib.Core.List.{List}
 use native.Mathlib.Nat.{suc-ne-zero}
 use native.Mathlib.Omega.{arith}
-use lib.Dec.{leb}
+use lib.Dec.{leb, ltb}
 use lib.ListN.{length}
 use borrow.Author.Tests.{lt-ltb, le-ltb, le-leb, lt-leb, eq-eqb, ne-eqb, leb-true, leb-false}
 use Rattle.base.specs.Choice.{pick}
@@ -17,6 +17,7 @@ use Rattle.sheet_records.specs.declared.cursor.Record.{Record}
 use Rattle.sheet_records.specs.declared.cursor.Cursor.{Cursor}
 use Rattle.sheet_records.specs.declared.cursor.Read.{Read}
 use Rattle.sheet_records.specs.declared.cursor.Read.the-variants.{Next, End}
+use Rattle.sheet_records.proofs.RefusalLaws.{counted}
 
 -- a word of bytes fits 32 bits
 pub word-below : (s : List ℕ) (b : ℕ) → ((i : ℕ) → at s i < 256) → wordAt s b ≤ 4_294_967_295
@@ -78,3 +79,11 @@ at-end s k o f e n = go (leb (count s) k) refl (rw f at (sym n ∙ e))
     go : (b : Bool) → leb (count s) k ≡ b → End ≡ pick b End (Next (recordAt s k) (record { at = k + 1 })) → count s ≤ k
     go true t p = leb-true (count s) k t
     go false t p = let z : _≡_ {A = ℕ} 0 1 = cc in absurd (suc-ne-zero 0 (sym z))
+
+-- a reading in a sheet that refusal 1 lets pass, with n for the count that was read: a record, or the end
+module _ (s : List ℕ) (n k : ℕ) (passes : badLength s ≡ false) (read : n ≡ pick (ltb (length s) 12) 0 (count s)) (o : Read) (found : o ≡ readOf s n k) where
+  pub read-next : (r : Record) (c : Cursor) → o ≡ Next r c → RecordRead s k r c
+  read-next r c e = record-read s k r c o passes (found ∙ of-whole s n k (counted s n passes read)) e
+
+  pub read-end : o ≡ End → count s ≤ k
+  read-end e = at-end s k o passes (found ∙ of-whole s n k (counted s n passes read)) e

@@ -1,10 +1,9 @@
 -- `records::keep_records` meets its contract: after k records the draft is what is kept of them. The measure is the records still to come.
-use Rattle.base.proofs.Prelude.{ℕ, _-_, _≤_, _≡_, refl, sym, ap, _∙_, [], arith, length, replicate, ltb, now, needs, pick}
+use Rattle.base.proofs.Prelude.{_-_, _≤_, _≡_, refl, sym, ap, _∙_, [], arith, replicate, now, needs}
 use native.Mathlib.Nat.{le-antisymm}
 use Rattle.sheet_records.specs.Sheet.{count}
-use Rattle.sheet_records.specs.Reading.{readAt, readOf}
-use Rattle.sheet_records.proofs.RefusalLaws.{whole, counted}
-use Rattle.sheet_records.proofs.ReadingLaws.{RecordRead, of-whole, record-read, at-end}
+use Rattle.sheet_records.proofs.RefusalLaws.{whole}
+use Rattle.sheet_records.proofs.ReadingLaws.{RecordRead, read-next, read-end}
 use Rattle.carrying.specs.Lines.{kept}
 use Rattle.carrying.specs.Workers.Draft.{Drafted}
 use Rattle.carrying.proofs.LineLaws.{kept-none}
@@ -23,11 +22,6 @@ abbrev μ-loop : tie.MeasureT-loop
 abbrev entry : tie.At-loop Inv-loop μ-loop → tie.Start Inv-loop μ-loop
 entry c = c .before .before .before .before .before
 
--- what a turn reads is the sheet's record
-at-place : (c : tie.At-loop Inv-loop μ-loop) (n : ℕ) → n ≡ pick (ltb (length (now (entry c .args .sheet))) 12) 0 (count (now (entry c .args .sheet)))
-    → readOf (now (entry c .args .sheet)) n (c .loop .cursor .at) ≡ readAt (now (entry c .args .sheet)) (c .loop .cursor .at)
-at-place c n e = of-whole _ n _ (counted _ n (entry c .pre .0) e)
-
 -- the record that a turn is about
 here : (c : tie.After-read Inv-loop μ-loop) →
     let head : tie.At-loop Inv-loop μ-loop = c .before .before .before in
@@ -36,7 +30,7 @@ here c =
     let at-loop : tie.At-loop Inv-loop μ-loop = search needs in
     let after-read-record : tie.After-read-record Inv-loop μ-loop = search needs in
     let after-record-count : tie.After-record-count Inv-loop μ-loop = search needs in
-    record-read _ _ _ _ _ (entry at-loop .pre .0) (after-read-record .read-record .ensures ∙ at-place at-loop _ (after-record-count .record-count .ensures)) (c .read .given .1)
+    read-next _ _ _ (entry at-loop .pre .0) (after-record-count .record-count .ensures) _ (after-read-record .read-record .ensures) _ _ (c .read .given .1)
 
 loop-holds : tie.Need-loop-holds Inv-loop μ-loop
 loop-holds c =
@@ -74,7 +68,7 @@ returns c =
     let after-read-record : tie.After-read-record Inv-loop μ-loop = search needs in
     let after-record-count : tie.After-record-count Inv-loop μ-loop = search needs in
     let sheet = now (entry at-loop .args .sheet) in
-    let end : at-loop .loop .cursor .at ≡ count sheet = le-antisymm (at-loop .loop .inv .0) (at-end _ _ _ (entry at-loop .pre .0) (after-read-record .read-record .ensures ∙ at-place at-loop _ (after-record-count .record-count .ensures)) (c .enum-told .given .1)) in
+    let end : at-loop .loop .cursor .at ≡ count sheet = le-antisymm (at-loop .loop .inv .0) (read-end _ _ _ (entry at-loop .pre .0) (after-record-count .record-count .ensures) _ (after-read-record .read-record .ensures) (c .enum-told .given .1)) in
     drafted-as _ _ _ _ (kept sheet (at-loop .loop .cursor .at)) (kept sheet (count sheet)) (ap (kept sheet) end) (at-loop .loop .inv .1)
 
 pub keep-records-spec : {M : Type 1} → statement M

@@ -1,10 +1,9 @@
 -- `sheet_reading::rules::records_stand` meets its contract: the tests of n records (`Tested`), of one more, and of all. The measure is the
 -- records still to come.
-use Rattle.base.proofs.Prelude.{ℕ, _-_, _≡_, length, ltb, pick, _∙_, arith, now, needs}
+use Rattle.base.proofs.Prelude.{_-_, arith, now, needs}
 use Rattle.sheet_records.specs.Sheet.{count}
-use Rattle.sheet_records.specs.Reading.{readAt, readOf}
-use Rattle.sheet_records.proofs.RefusalLaws.{long-enough, counted}
-use Rattle.sheet_records.proofs.ReadingLaws.{RecordRead, of-whole, record-read, at-end}
+use Rattle.sheet_records.proofs.RefusalLaws.{long-enough}
+use Rattle.sheet_records.proofs.ReadingLaws.{RecordRead, read-next, read-end}
 use Rattle.sheet_reading.proofs.PassLaws.{Tested, tested-none, tested-more, tested-all}
 use Rattle.sheet_reading.proofs.rules.records_stand.Statement.{statement}
 use Rattle.sheet_reading.proofs.rules.records_stand.Tie as tie
@@ -22,11 +21,6 @@ words c = c .before .before
 abbrev entry : tie.At-loop Inv-loop μ-loop → tie.Start Inv-loop μ-loop
 entry c = words c .before .before .before .before
 
--- what a turn reads is the sheet's record
-at-place : (c : tie.At-loop Inv-loop μ-loop) (n : ℕ) → n ≡ pick (ltb (length (now (entry c .args .sheet))) 12) 0 (count (now (entry c .args .sheet)))
-    → readOf (now (entry c .args .sheet)) n (c .loop .cursor .at) ≡ readAt (now (entry c .args .sheet)) (c .loop .cursor .at)
-at-place c n e = of-whole _ n _ (counted _ n (entry c .pre) e)
-
 -- the record that a turn is about
 here : (c : tie.After-read Inv-loop μ-loop) →
     let head : tie.At-loop Inv-loop μ-loop = c .before .before .before in
@@ -34,7 +28,7 @@ here : (c : tie.After-read Inv-loop μ-loop) →
 here c =
     let at-loop : tie.At-loop Inv-loop μ-loop = search needs in
     let after-read-record : tie.After-read-record Inv-loop μ-loop = search needs in
-    record-read _ _ _ _ _ (entry at-loop .pre) (after-read-record .read-record .ensures ∙ at-place at-loop _ (words at-loop .record-count .ensures)) (c .read .given .1)
+    read-next _ _ _ (entry at-loop .pre) (words at-loop .record-count .ensures) _ (after-read-record .read-record .ensures) _ _ (c .read .given .1)
 
 loop-holds : tie.Need-loop-holds Inv-loop μ-loop
 loop-holds c = tested-none _ _ (c .first .ensures)
@@ -59,7 +53,7 @@ returns c =
     let at-loop : tie.At-loop Inv-loop μ-loop = search needs in
     let after-read-record : tie.After-read-record Inv-loop μ-loop = search needs in
     tested-all _ _ _ (at-loop .loop .inv)
-    (at-end _ _ _ (entry at-loop .pre) (after-read-record .read-record .ensures ∙ at-place at-loop _ (words at-loop .record-count .ensures)) (c .enum-told .given .1))
+    (read-end _ _ _ (entry at-loop .pre) (words at-loop .record-count .ensures) _ (after-read-record .read-record .ensures) (c .enum-told .given .1))
 
 pub records-stand-spec : {M : Type 1} → statement M
 records-stand-spec =

@@ -1,10 +1,9 @@
 -- `rows::put_rows` meets its contract: the lines of the records read so far are written (`RowLaws`).
-use Rattle.base.proofs.Prelude.{ℕ, _-_, _≤_, _≡_, refl, sym, _∙_, subst, arith, length, ltb, now, needs, pick}
+use Rattle.base.proofs.Prelude.{ℕ, _-_, _≤_, _≡_, refl, sym, subst, arith, length, now, needs}
 use native.Mathlib.Nat.{le-antisymm}
 use Rattle.sheet_records.specs.Sheet.{count}
-use Rattle.sheet_records.specs.Reading.{readAt, readOf}
-use Rattle.sheet_records.proofs.ReadingLaws.{RecordRead, of-whole, record-read, at-end}
-use Rattle.sheet_records.proofs.RefusalLaws.{whole, counted}
+use Rattle.sheet_records.proofs.ReadingLaws.{RecordRead, read-next, read-end}
+use Rattle.sheet_records.proofs.RefusalLaws.{whole}
 use Rattle.sheet_table.specs.Workers.Steps.{Put}
 use Rattle.sheet_table.specs.Table.{rowsOf}
 use Rattle.sheet_table.proofs.RowLaws.{rows-few, rows-none, rows-turn}
@@ -21,11 +20,6 @@ abbrev μ-loop : tie.MeasureT-loop
 abbrev entry : tie.At-loop Inv-loop μ-loop → tie.Start Inv-loop μ-loop
 entry c = c .before .before .before .before .before
 
--- what a turn reads is the sheet's record
-at-place : (c : tie.At-loop Inv-loop μ-loop) (n : ℕ) → n ≡ pick (ltb (length (now (entry c .args .sheet))) 12) 0 (count (now (entry c .args .sheet)))
-    → readOf (now (entry c .args .sheet)) n (c .loop .cursor .at) ≡ readAt (now (entry c .args .sheet)) (c .loop .cursor .at)
-at-place c n e = of-whole _ n _ (counted _ n (entry c .pre .0) e)
-
 -- the record that is read in a turn
 here : (c : tie.After-read Inv-loop μ-loop) →
     let head : tie.At-loop Inv-loop μ-loop = c .before .before .before in
@@ -34,7 +28,7 @@ here c =
     let at-loop : tie.At-loop Inv-loop μ-loop = search needs in
     let after-read-record : tie.After-read-record Inv-loop μ-loop = search needs in
     let after-record-count : tie.After-record-count Inv-loop μ-loop = search needs in
-    record-read _ _ _ _ _ (entry at-loop .pre .0) (after-read-record .read-record .ensures ∙ at-place at-loop _ (after-record-count .record-count .ensures)) (c .read .given .1)
+    read-next _ _ _ (entry at-loop .pre .0) (after-record-count .record-count .ensures) _ (after-read-record .read-record .ensures) _ _ (c .read .given .1)
 
 loop-holds : tie.Need-loop-holds Inv-loop μ-loop
 loop-holds c =
@@ -80,7 +74,7 @@ returns c =
     let after-shared-slice-known : tie.After-shared-slice-known Inv-loop μ-loop = search needs in
     let a = entry at-loop .args in
     let t = at-loop .loop in
-    let end : t .cursor .at ≡ count (now (a .sheet)) = le-antisymm (t .inv .0) (at-end _ _ _ (entry at-loop .pre .0) (after-read-record .read-record .ensures ∙ at-place at-loop _ (after-record-count .record-count .ensures)) (c .enum-told .given .1)) in (
+    let end : t .cursor .at ≡ count (now (a .sheet)) = le-antisymm (t .inv .0) (read-end _ _ _ (entry at-loop .pre .0) (after-record-count .record-count .ensures) _ (after-read-record .read-record .ensures) (c .enum-told .given .1)) in (
       subst (λ (k : ℕ). Put (a .at) (rowsOf (now (a .sheet)) k) (t .next) (now (a .out)) (t .out)) end (t .inv .2),
       omega (arith, t .inv .2 .0, t .inv .0, rows-few (now (a .sheet)) (t .cursor .at) (λ (i : ℕ). omega (arith, after-shared-slice-known .shared-slice-known .given i)), whole (now (a .sheet)) _ (entry at-loop .pre .0) refl .few),
     )
