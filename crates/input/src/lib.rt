@@ -1,4 +1,5 @@
-// A file read whole, as a program reads its input.
+// What every program does: it reads a file whole, and says on standard error what went wrong.
+use libc::STDERR_FILENO;
 ghost use Rattle.io.specs.Counts.{Counts};
 
 // What was read: whether it is the whole file or as much of it as there is room for, and how many bytes it is.
@@ -15,6 +16,11 @@ pub fn read_whole(file: i32, buffer: &mut [u8]) -> Read
     let count = io::read_full(file, buffer);
     let whole = (count == buffer.len()) | at_end(file);
     Read { whole, count }
+}
+
+// Says a text on standard error.
+pub fn say(text: &[u8]) {
+    io::write_all(STDERR_FILENO, text);
 }
 
 // Whether a file that was read has ended. Where a read failed, it has not.

@@ -1,14 +1,13 @@
-// Program `post`: a sheet on standard input, its posting on standard output. Here it is run on the sheet
-// of case i.
-
-use libc::STDERR_FILENO;
+// Program `post`: a sheet on standard input, its posting on standard output (docs/RULES.md, "Beside the year"). Here
+// it is run on the sheet of case i.
+use base::limits::MOST_SHEET_BYTES;
+use input::say;
 use libc::STDIN_FILENO;
 use libc::STDOUT_FILENO;
 use posting_text::TEXT_BYTES;
 
-// The longest sheet has 8,204 bytes. With room for one byte more a longer input is told from it, and
-// is refused with number 1.
-const SHEET_ROOM: usize = 8_205;
+// Room for the longest sheet and for one byte more, by which a longer input is told from it, and is refused.
+const SHEET_ROOM: usize = MOST_SHEET_BYTES + 1;
 
 // Reads a sheet from standard input and prints its posting, or `R` and the number of its refusal. Where it can't
 // be read or printed, standard error says so.
@@ -23,10 +22,6 @@ fn main() {
     if !print_posting(&sheet[..count]) {
         say(b"standard output: can't be written\n");
     }
-}
-
-fn say(text: &[u8]) {
-    io::write_all(STDERR_FILENO, text);
 }
 
 // Answers whether the posting was written.

@@ -1,5 +1,7 @@
 // Program `sheet`: comma-separated text on standard input becomes a sheet's bytes on standard
 // output; with a sheet's file name as its argument it prints the sheet's text.
+use base::limits::MOST_SHEET_BYTES;
+use input::say;
 use libc::STDERR_FILENO;
 use libc::STDIN_FILENO;
 use libc::STDOUT_FILENO;
@@ -7,12 +9,15 @@ use sheet_table::Converted;
 use sheet_table::MOST_SHEET_BYTES;
 use sheet_table::TABLE_BYTES;
 
-// Room for the longest text that is read, 131,072 bytes, and for one byte more, by which a longer one is told from it.
-const TEXT_ROOM: usize = 131_073;
+// The longest text that is read.
+const MOST_TEXT_BYTES: usize = 131_072;
 
-// The same for a sheet.
-const SHEET_ROOM: usize = 8_205;
+// Room for it and for one byte more, by which a longer one is told from it; and the same for a sheet.
+const TEXT_ROOM: usize = MOST_TEXT_BYTES + 1;
 
+const SHEET_ROOM: usize = MOST_SHEET_BYTES + 1;
+
+// Converts or prints, by the number of arguments.
 fn main() {
     let words = os::arg_count();
     if words < 2 {
@@ -26,10 +31,7 @@ fn main() {
     say(b"usage: sheet < TEXT > SHEET, or sheet SHEET\n");
 }
 
-fn say(text: &[u8]) {
-    io::write_all(STDERR_FILENO, text);
-}
-
+// Text on standard input becomes a sheet on standard output.
 fn convert_input() {
     let mut text = [0u8; TEXT_ROOM];
     let read = input::read_whole(STDIN_FILENO, &mut text);
@@ -45,6 +47,7 @@ fn convert_input() {
     write_sheet(&text[..count]);
 }
 
+// Writes the sheet that a text says, or says its fault.
 fn write_sheet(text: &[u8]) {
     let mut sheet = [0u8; MOST_SHEET_BYTES];
     let converted = sheet_table::to_sheet(text, &mut sheet);
@@ -56,6 +59,7 @@ fn write_sheet(text: &[u8]) {
     write_out(&sheet[..count]);
 }
 
+// Writes to standard output. Where that fails, standard error says why.
 fn write_out(bytes: &[u8]) {
     if !io::write_all(STDOUT_FILENO, bytes) {
         os::fail(b"standard output");
@@ -121,6 +125,7 @@ fn say_reason(fault: u32, past: bool) {
     }
 }
 
+// Prints the sheet of the file that the argument names.
 fn print_argument() {
     let mut name = io::buffer();
     let length = os::arg(1, &mut name);
@@ -131,6 +136,7 @@ fn print_argument() {
     print_file(&name[..length]);
 }
 
+// Prints the sheet of a file.
 fn print_file(name: &[u8]) {
     let file = os::open_read(name);
     if file < 0 {
@@ -155,6 +161,7 @@ fn print_file(name: &[u8]) {
     print_sheet(name, &sheet[..count]);
 }
 
+// Prints the text of a sheet.
 fn print_sheet(name: &[u8], sheet: &[u8]) {
     let mut text = [0u8; TABLE_BYTES];
     let count = sheet_table::to_table(sheet, &mut text);

@@ -21,7 +21,8 @@ use Rattle.lists.specs.Calls.{Call, Result, result, after}
 use Rattle.lists.specs.Encoded.{callCount, wordsOf, isClosing, callOf, closingsBefore, lentTo, accepted, withAnswer, run}
 use Rattle.lists.specs.Encoded as Encoded
 use Rattle.lists.proofs.RunLaws.{after-suc, run-whole}
-use Rattle.year.specs.Year.{zeros, callAt, firstCalls, stateAfter, answersAfter, Ran, OneClosing, YearRan}
+use Rattle.year.specs.Year.{zeros, callAt, firstCalls, stateAfter, answersAfter, YearRan}
+use Rattle.year.specs.Workers.Stretches.{Ran, OneClosing}
 use Rattle.year.proofs.YearLaws.{word-of, state-next, answer-length}
 
 -- none of calls first to n - 1 is a closing

@@ -3,24 +3,24 @@ use super::JOURNAL;
 use super::NEXT_SHEET;
 use super::SHEET;
 use super::files;
+use input::say;
+use journal::faults::BAD_NUMBERS;
+use journal::faults::NOT_A_CALL;
+use journal::faults::OVER_32_BITS;
 use libc::STDERR_FILENO;
 
-// What is wrong with a line of a journal, as `journal::read_journal` numbers it.
-const NOT_A_CALL: u32 = 1;
-
-const BAD_NUMBERS: u32 = 2;
-
-const OVER_32_BITS: u32 = 3;
-
+// How the program is called.
 pub(super) fn usage() {
     say(b"usage: year SHEET JOURNAL [NEXT-SHEET]\n");
 }
 
+// The file of the sheet is longer than any sheet.
 pub(super) fn too_long_sheet() {
     files::print_name(SHEET);
     say(b": longer than a sheet, which has at most 8,204 bytes\n");
 }
 
+// The journal is longer than there is room for.
 pub(super) fn too_long_journal() {
     files::print_name(JOURNAL);
     say(b": longer than 1,048,576 bytes\n");
@@ -34,6 +34,7 @@ pub(super) fn journal_line(line: usize, fault: u32) {
     why(fault);
 }
 
+// What is wrong with a line of the journal.
 fn why(fault: u32) {
     if fault == NOT_A_CALL {
         say(b": not a call\n");
@@ -46,13 +47,10 @@ fn why(fault: u32) {
     }
 }
 
+// Next year's sheet could not be made.
 pub(super) fn not_carried(refusal: u32) {
     files::print_name(NEXT_SHEET);
     say(b": not written, carry is refused with number ");
     io::print_decimal(STDERR_FILENO, refusal as u64);
     say(b"\n");
-}
-
-fn say(text: &[u8]) {
-    io::write_all(STDERR_FILENO, text);
 }

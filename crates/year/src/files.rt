@@ -4,6 +4,7 @@ use libc::STDERR_FILENO;
 ghost use mathlib.Core.Path.{_≡_};
 ghost use Rattle.io.specs.Counts.{Counts};
 
+// What is read where nothing can be read.
 pub(super) fn nothing() -> Read
     ensures { λ r. ⌜ r .count ≡ 0 ⌝ }
 {
@@ -27,6 +28,7 @@ pub(super) fn read_argument(argument: usize, buffer: &mut [u8]) -> Read
     read_named(&name[..count], buffer)
 }
 
+// Reads the file of a name in the same way.
 fn read_named(name: &[u8], buffer: &mut [u8]) -> Read
     ensures { λ r. ⌜ Counts (r .count) (now (buffer .exit)) ⌝ }
 {

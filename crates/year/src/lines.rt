@@ -3,12 +3,12 @@
 use base::encoding::ANSWER_WORDS;
 use base::limits::GRANTS_WORDS;
 use base::limits::STATE_WORDS;
-use control_room::ANSWERS_WORDS;
-use control_room::CALLS_WORDS;
+use journal::sizes::ANSWERS_WORDS;
+use journal::sizes::CALLS_WORDS;
 use libc::STDOUT_FILENO;
-use state::layout;
 use text::LINE_BYTES;
 
+// Prints a line of a label and figures.
 fn print(label: &[u8], figures: &[u64]) -> bool {
     let mut out = [0u8; LINE_BYTES];
     let count = text::line(label, b' ', figures, &mut out);
@@ -19,11 +19,12 @@ fn print(label: &[u8], figures: &[u64]) -> bool {
     false
 }
 
+// A refusal, as `R` and its number.
 pub(super) fn refused(number: u64) -> bool {
     print(b"R", &[number])
 }
 
-// The answers to calls, three words to each.
+// The answers to calls.
 pub(super) fn answers(answers: &[u64]) -> bool {
     let count = answers.len() / ANSWER_WORDS;
     let mut n = 0;
@@ -37,6 +38,7 @@ pub(super) fn answers(answers: &[u64]) -> bool {
     true
 }
 
+// The answer to a call: its refusal, or `ok`, its kW and its passes.
 fn answer(refusal: u64, kw: u64, passes: u64) -> bool {
     if refusal != 0 {
         return refused(refusal);
@@ -60,6 +62,7 @@ pub(super) fn grants(grants: &[u32; GRANTS_WORDS], interties: usize) -> bool {
     true
 }
 
+// A grant of a closing, where it is not 0.
 fn grant(holder: usize, intertie: usize, kw: u32) -> bool {
     if kw == 0 {
         return true;
@@ -69,7 +72,7 @@ fn grant(holder: usize, intertie: usize, kw: u32) -> bool {
 
 // What a control room asks for of every intertie.
 pub(super) fn interties(state: &[u32; STATE_WORDS]) -> bool {
-    let count = state::word(state, layout::SIZES, layout::INTERTIES);
+    let count = state::intertie_count(state);
     let mut intertie = 0;
     while intertie < count {
         if !intertie_line(state, intertie) {
@@ -80,6 +83,7 @@ pub(super) fn interties(state: &[u32; STATE_WORDS]) -> bool {
     true
 }
 
+// The figures of an intertie.
 fn intertie_line(state: &[u32; STATE_WORDS], intertie: u32) -> bool {
     let figures = control_room::intertie_figures(state, intertie);
     print(
@@ -103,7 +107,7 @@ pub(super) fn holders(
     answers: &[u64; ANSWERS_WORDS],
     count: usize,
 ) -> bool {
-    let end = state::word(state, layout::SIZES, layout::HOLDERS);
+    let end = state::holder_count(state);
     let mut holder = 0;
     while holder < end {
         if !holder_line(state, calls, answers, count, holder) {
@@ -114,6 +118,7 @@ pub(super) fn holders(
     true
 }
 
+// The figures of a holder.
 fn holder_line(
     state: &[u32; STATE_WORDS],
     calls: &[u32; CALLS_WORDS],

@@ -6,11 +6,15 @@ mod lines;
 mod next;
 mod running;
 
+use base::limits::MOST_SHEET_BYTES;
 use base::limits::STATE_WORDS;
-use control_room::ANSWERS_WORDS;
-use control_room::CALLS_WORDS;
+use base::limits::STATE_WORDS;
 use input::Read;
+use journal::sizes::ANSWERS_WORDS;
+use journal::sizes::CALLS_WORDS;
+use journal::sizes::MOST_JOURNAL_BYTES;
 ghost use Prim.Native.Nat.{_≤_};
+ghost use Rattle.journal.specs.Sizes.{mostCalls};
 
 // The arguments: the names of the sheet, of the journal and, where there is a third, of the sheet that
 // is written for next year. The program's own name is argument 0.
@@ -20,11 +24,10 @@ const JOURNAL: usize = 2;
 
 const NEXT_SHEET: usize = 3;
 
-// Room for the longest sheet, 8,204 bytes, and for one byte more, by which a longer file is told from it.
-const SHEET_BYTES: usize = 8_205;
+// Room for the longest sheet and for one byte more, by which a longer file is told from it; and the same for a journal.
+const SHEET_ROOM: usize = MOST_SHEET_BYTES + 1;
 
-// Room for a journal of 1,048,576 bytes and for one byte more.
-const JOURNAL_BYTES: usize = 1_048_577;
+const JOURNAL_ROOM: usize = MOST_JOURNAL_BYTES + 1;
 
 // Runs the year of the files that the arguments name.
 fn main() {
@@ -33,16 +36,16 @@ fn main() {
         faults::usage();
         return;
     }
-    let mut sheet = [0u8; SHEET_BYTES];
-    let mut text = [0u8; JOURNAL_BYTES];
+    let mut sheet = [0u8; SHEET_ROOM];
+    let mut text = [0u8; JOURNAL_ROOM];
     let mut calls = [0u32; CALLS_WORDS];
     run_files(&mut sheet, &mut text, &mut calls, NEXT_SHEET < arguments);
 }
 
 // Reads both files whole, and then runs the calls on the sheet.
 fn run_files(
-    sheet: &mut [u8; SHEET_BYTES],
-    text: &mut [u8; JOURNAL_BYTES],
+    sheet: &mut [u8; SHEET_ROOM],
+    text: &mut [u8; JOURNAL_ROOM],
     calls: &mut [u32; CALLS_WORDS],
     carries: bool,
 ) {
@@ -55,7 +58,7 @@ fn run_files(
         return;
     }
     let end = file.count;
-    if SHEET_BYTES <= end {
+    if SHEET_ROOM <= end {
         faults::too_long_sheet();
         return;
     }
@@ -65,15 +68,15 @@ fn run_files(
 
 // Reads the calls of the journal and answers how many there are. Where a line can't be read, standard
 // error says which.
-fn read_calls(text: &mut [u8; JOURNAL_BYTES], calls: &mut [u32; CALLS_WORDS]) -> Read
-    ensures { λ r. ⌜ r .count ≤ 16384 ⌝ }
+fn read_calls(text: &mut [u8; JOURNAL_ROOM], calls: &mut [u32; CALLS_WORDS]) -> Read
+    ensures { λ r. ⌜ r .count ≤ mostCalls ⌝ }
 {
     let file = files::read_argument(JOURNAL, text);
     let end = file.count;
     if !file.whole {
         return files::nothing();
     }
-    if JOURNAL_BYTES <= end {
+    if JOURNAL_ROOM <= end {
         faults::too_long_journal();
         return files::nothing();
     }
@@ -91,7 +94,7 @@ fn read_calls(text: &mut [u8; JOURNAL_BYTES], calls: &mut [u32; CALLS_WORDS]) ->
 
 // Runs the first `count` calls on the sheet and writes next year's sheet.
 fn run_list(sheet: &[u8], calls: &[u32; CALLS_WORDS], count: usize, carries: bool)
-    requires { ⌜ count ≤ 16384 ⌝ }
+    requires { ⌜ count ≤ mostCalls ⌝ }
 {
     let mut state = [0u32; STATE_WORDS];
     let mut answers = [0u64; ANSWERS_WORDS];
@@ -112,7 +115,7 @@ fn print_year(
     state: &mut [u32; STATE_WORDS],
     answers: &mut [u64; ANSWERS_WORDS],
 ) -> bool
-    requires { ⌜ count ≤ 16384 ⌝ }
+    requires { ⌜ count ≤ mostCalls ⌝ }
 {
     let opened = opening::open(sheet, state);
     if opened.refusal != 0 {

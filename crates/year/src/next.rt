@@ -1,16 +1,16 @@
 // Next year's sheet, written by carry to the file that the third argument names.
 use super::NEXT_SHEET;
 use super::faults;
+use base::limits::MOST_SHEET_BYTES;
+use base::limits::RECORD_BYTES;
+use base::limits::SHEET_HEADER_BYTES;
 use base::limits::STATE_WORDS;
 use sheet_records::words;
 ghost use Prim.Native.Nat.{_≤_};
 
-// The longest sheet.
-const NEXT_BYTES: usize = 8_204;
-
 // Carries the year and writes next year's sheet. A refusal touches no file.
 pub(super) fn write_next(sheet: &[u8], state: &[u32; STATE_WORDS]) {
-    let mut next = [0u8; NEXT_BYTES];
+    let mut next = [0u8; MOST_SHEET_BYTES];
     let carried = carrying::carry(sheet, state, &mut next);
     if carried.refusal != 0 {
         faults::not_carried(carried.refusal);
@@ -24,9 +24,10 @@ pub(super) fn write_next(sheet: &[u8], state: &[u32; STATE_WORDS]) {
 fn sheet_length(sheet: &[u8]) -> usize
     ensures { λ r. ⌜ r ≤ 34359738380 ⌝ }
 {
-    12 + 8 * (words::record_count(sheet) as usize)
+    SHEET_HEADER_BYTES + RECORD_BYTES * (words::record_count(sheet) as usize)
 }
 
+// Writes next year's sheet to the file that the third argument names.
 fn write_argument(sheet: &[u8]) {
     let mut name = io::buffer();
     let count = os::arg(NEXT_SHEET, &mut name);

@@ -5,17 +5,19 @@ use base::encoding;
 use base::encoding::ANSWER_WORDS;
 use base::encoding::CALL_WORDS;
 use base::limits::GRANTS_WORDS;
-use state::layout;
 ghost use Prim.Native.Nat.{_*_, _≤_, _<_};
 ghost use mathlib.Core.Path.{_≡_};
 ghost use mathlib.Core.Bool.{true};
 ghost use lib.ListN.{length};
-ghost use Rattle.year.specs.Year.{Ran, OneClosing, YearRan};
+ghost use Rattle.base.specs.Encoding.{callWords, answerWords};
+ghost use Rattle.year.specs.Year.{YearRan};
+ghost use Rattle.year.specs.Workers.Stretches.{Ran, OneClosing};
 
 // Runs the first `count` calls. Answers whether all were run and printed.
 pub(super) fn run_all(calls: &[u32], count: usize, state: &mut [u32], answers: &mut [u64]) -> bool
-    requires { ⌜ (6 * count ≤ length (now calls)) × (3 * count ≤ length (now answers)) ⌝ }
-    ensures { λ r. ⌜ (r ≡ true → YearRan (now (calls .entry)) (now (state .entry)) (now (answers .entry)) count (now (state .exit)) (now (answers .exit))) ⌝ }
+    requires { ⌜ (callWords * count ≤ length (now calls)) × (answerWords * count ≤ length (now answers)) ⌝ }
+    ensures { λ r. let words = now (calls .entry) in let s = now (state .entry) in let a = now (answers .entry) in
+        ⌜ (r ≡ true → YearRan words s a count (now (state .exit)) (now (answers .exit))) ⌝ }
 {
     let mut first = 0;
     while first < count {
@@ -32,7 +34,7 @@ pub(super) fn run_all(calls: &[u32], count: usize, state: &mut [u32], answers: &
 
 // Where the stretch from a call on ends: after its first closing, or with the list.
 fn stretch_end(calls: &[u32], first: usize, count: usize) -> usize
-    requires { ⌜ (first < count) × (6 * count ≤ length (now calls)) ⌝ }
+    requires { ⌜ (first < count) × (callWords * count ≤ length (now calls)) ⌝ }
     ensures { λ r. ⌜ (first < r) × (r ≤ count) × OneClosing (now (calls .entry)) first r ⌝ }
 {
     let mut n = first;
@@ -48,7 +50,8 @@ fn stretch_end(calls: &[u32], first: usize, count: usize) -> usize
 // Runs calls of which only the last may be a closing, and prints their answers and the grants of the
 // closing. A refused closing leaves the grants at 0.
 fn run_stretch(calls: &[u32], state: &mut [u32], answers: &mut [u64]) -> bool
-    ensures { λ r. ⌜ (r ≡ true → Ran (now (calls .entry)) (now (state .entry)) (now (answers .entry)) (now (state .exit)) (now (answers .exit))) ⌝ }
+    ensures { λ r. let words = now (calls .entry) in let s = now (state .entry) in let a = now (answers .entry) in
+        ⌜ (r ≡ true → Ran words s a (now (state .exit)) (now (answers .exit))) ⌝ }
 {
     let mut grants = [0u32; GRANTS_WORDS];
     if !lists::run_calls(calls, state, &mut grants, answers) {
@@ -57,6 +60,6 @@ fn run_stretch(calls: &[u32], state: &mut [u32], answers: &mut [u64]) -> bool
     if !lines::answers(answers) {
         return false;
     }
-    let interties = state::word(state, layout::SIZES, layout::INTERTIES) as usize;
+    let interties = state::intertie_count(state) as usize;
     lines::grants(&grants, interties)
 }
