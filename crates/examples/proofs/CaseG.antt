@@ -1,4 +1,5 @@
--- Case g of 01's table of examples: sellers with 50,000 (twice) and 30,000 give the weight 40,000. The trades are made, and the weight is read in the state after them.
+-- Case g (docs/RULES.md, "Examples"): sellers with 50,000 (twice) and 30,000 give the weight 40,000. The trades are made, and the weight is read in
+-- the state after them.
 use Prim.Native.Nat.{ℕ}
 use mathlib.Core.Path.{_≡_, refl}
 use mathlib.Core.List.{List, [], _∷_}

@@ -1,4 +1,4 @@
--- The table of examples of document 01, a to i, in one statement.
+-- The table of examples (docs/RULES.md, "Examples"), a to i, in one statement.
 use Prim.Native.Nat.{ℕ}
 use mathlib.Core.Path.{_≡_}
 use mathlib.Core.List.{List}
@@ -6,6 +6,7 @@ use lib.ListN.{length}
 use Rattle.share_out.proofs.Examples as ShareOut
 use Rattle.holding.proofs.Examples as Holding
 use Rattle.posting.proofs.Examples as Posting
+use Rattle.posting.specs.Rows.{postingNumbers}
 use Rattle.posting.specs.Post.{posted}
 use Rattle.examples.proofs.CaseG.{CaseG, case-g}
 
@@ -17,7 +18,7 @@ pub record Table : Type 0 where
   -- h: reserved 30, Step 7 total 100, placed 46, no lock: lock 45 stands, 46 is refused 13
   pub h : Holding.CaseH
   -- i: what `post` prints of the sheet, whatever stood in its ten rows before
-  pub i : (l : List ℕ) → length l ≡ 480 → Posting.CaseI (posted Posting.sheetI l)
+  pub i : (l : List ℕ) → length l ≡ postingNumbers → Posting.CaseI (posted Posting.sheetI l)
 
 pub table : Table
 table = record { a-to-f = ShareOut.cases; g = case-g; h = Holding.case-h; i = Posting.case-i }

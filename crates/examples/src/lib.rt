@@ -1,1 +1,1 @@
-// The table of examples of document 01, cases a to i, as one theorem (proofs/Table). No code stands here.
+// The table of examples (docs/RULES.md, "Examples"), cases a to i, as one theorem (proofs/Table). No code stands here.

@@ -1,5 +1,8 @@
-// The opened state, written from the sheet's table of kilowatts and the steps' figures, group by group
-// in the order of its rows.
+// The opened state (docs/RULES.md, "The year's state"), written from the sheet's table of kilowatts and the steps'
+// figures, group by group in the order of its rows.
+use base::limits::MOST_HOLDERS;
+use base::limits::MOST_INTERTIES;
+use base::limits::MOST_PAIRS;
 use base::limits::STATE_WORDS;
 use base::stages;
 use sheet_reading::tables;
@@ -8,16 +11,20 @@ use state::layout;
 ghost use mathlib.Core.Path.{_≡_};
 ghost use Prim.Native.Nat.{ℕ, _+_, _%_, _≤_, _<_};
 ghost use lib.ListN.{length};
+ghost use Rattle.base.specs.Limits.{mostInterties, mostHolders, stateWords};
 ghost use Rattle.base.specs.Words.{at};
-ghost use Rattle.state_rows.specs.Rows.{fillRow, fillPairs};
-ghost use Rattle.sheet_reading.specs.Tables.{existingSlot};
-ghost use Rattle.opened_state.specs.Write.{Sizes, fitSizes, sizesWritten, figuresWritten, reservedWritten, stageWritten, rowsCleared, pairsCleared, written};
+ghost use Rattle.sheet_reading.specs.Tables.{slots};
+ghost use Rattle.state.specs.Layout.{wholeRows};
+ghost use Rattle.state_rows.specs.Rows.{fillRow};
+ghost use Rattle.opened_state.specs.Write.{low, fitSizes, sizesWritten, figuresWritten, existingWritten, reservedWritten};
+ghost use Rattle.opened_state.specs.Write.{stageWritten, rowsCleared, pairsCleared, written};
+ghost use Rattle.opened_state.specs.Workers.Sizes.{Sizes};
 
 // Whether a state of so many words has room, and the sizes are in range.
 fn fit_sizes(words: usize, interties: usize, holders: usize) -> bool
     ensures { λ r. ⌜ r ≡ fitSizes words interties holders ⌝ }
 {
-    (STATE_WORDS <= words) & (interties <= 48) & (holders <= 32)
+    (STATE_WORDS <= words) & (interties <= MOST_INTERTIES) & (holders <= MOST_HOLDERS)
 }
 
 // I and H.
@@ -31,8 +38,10 @@ fn write_sizes(state: &mut [u32], interties: usize, holders: usize)
 
 // The sheet's kilowatts, from a slot on, over the first columns of a row.
 fn write_slots(state: &mut [u32], row: usize, count: usize, kw: &[u64], slot: usize)
-    requires { ⌜ (16000 ≤ length (now state)) × (row < 333) × (count ≤ 48) × (slot ≤ 12000) × (length (now kw) ≡ 12481) ⌝ }
-    ensures { λ _. ⌜ now (state .exit) ≡ fillRow row count (λ (c : ℕ). at (now (kw .entry)) (slot + c) % 4294967296) (now (state .entry)) ⌝ }
+    requires { ⌜ (stateWords ≤ length (now state)) × (row < wholeRows) × (count ≤ mostInterties) × (slot + count ≤ slots)
+        × (length (now kw) ≡ slots) ⌝ }
+    ensures { λ _. ⌜ now (state .exit)
+        ≡ fillRow row count (λ (c : ℕ). low (at (now (kw .entry)) (slot + c))) (now (state .entry)) ⌝ }
 {
     state_rows::store_row(state, row, count, &kw[slot..]);
 }
@@ -43,12 +52,13 @@ fn write_figures(
     kw: &[u64],
     interties: usize,
     holders: usize,
-    shares: &[u64; 32],
-    totals: &[u64; 32],
-    held: &[u64; 32],
+    shares: &[u64; MOST_HOLDERS],
+    totals: &[u64; MOST_HOLDERS],
+    held: &[u64; MOST_HOLDERS],
 )
-    requires { ⌜ Sizes (now state) interties holders × (length (now kw) ≡ 12481) ⌝ }
-    ensures { λ _. ⌜ now (state .exit) ≡ figuresWritten (now (kw .entry)) interties holders (now (shares .entry)) (now (totals .entry)) (now (held .entry)) (now (state .entry)) ⌝ }
+    requires { ⌜ Sizes (now state) interties holders × (length (now kw) ≡ slots) ⌝ }
+    ensures { λ _. ⌜ now (state .exit) ≡ figuresWritten (now (kw .entry)) interties holders
+        (now (shares .entry)) (now (totals .entry)) (now (held .entry)) (now (state .entry)) ⌝ }
 {
     state_rows::store_row(state, layout::LIMIT as usize, interties, kw);
     write_slots(
@@ -72,13 +82,19 @@ fn write_figures(
 
 // E of every pair.
 fn write_existing(state: &mut [u32], kw: &[u64], interties: usize, holders: usize)
-    requires { ⌜ Sizes (now state) interties holders × (length (now kw) ≡ 12481) ⌝ }
-    ensures { λ _. ⌜ now (state .exit) ≡ fillPairs 7 holders interties (λ (h i : ℕ). at (now (kw .entry)) (existingSlot h i) % 4294967296) (now (state .entry)) ⌝ }
+    requires { ⌜ Sizes (now state) interties holders × (length (now kw) ≡ slots) ⌝ }
+    ensures { λ _. ⌜ now (state .exit) ≡ existingWritten (now (kw .entry)) interties holders (now (state .entry)) ⌝ }
 {
     let mut holder = 0;
     while holder < holders {
         let row = layout::EXISTING as usize + holder;
-        write_slots(state, row, interties, kw, tables::EXISTING + 64 * holder);
+        write_slots(
+            state,
+            row,
+            interties,
+            kw,
+            tables::EXISTING + tables::HOLDER_INTERTIES * holder,
+        );
         holder += 1;
     }
 }
@@ -89,11 +105,12 @@ fn write_reserved(
     kw: &[u64],
     interties: usize,
     holders: usize,
-    pre_ra: &[u64; 1536],
-    new_use: &[u64; 1536],
+    pre_ra: &[u64; MOST_PAIRS],
+    new_use: &[u64; MOST_PAIRS],
 )
-    requires { ⌜ Sizes (now state) interties holders × (length (now kw) ≡ 12481) ⌝ }
-    ensures { λ _. ⌜ now (state .exit) ≡ reservedWritten (now (kw .entry)) interties holders (now («pre_ra» .entry)) (now («new_use» .entry)) (now (state .entry)) ⌝ }
+    requires { ⌜ Sizes (now state) interties holders × (length (now kw) ≡ slots) ⌝ }
+    ensures { λ _. ⌜ now (state .exit) ≡ reservedWritten (now (kw .entry)) interties holders
+        (now («pre_ra» .entry)) (now («new_use» .entry)) (now (state .entry)) ⌝ }
 {
     write_existing(state, kw, interties, holders);
     state_rows::store_pairs(state, layout::PRE_RA as usize, holders, interties, pre_ra);
@@ -105,11 +122,12 @@ fn write_stage(
     state: &mut [u32],
     interties: usize,
     holders: usize,
-    unassigned: &[u64; 48],
-    unplaced: &[u64; 32],
+    unassigned: &[u64; MOST_INTERTIES],
+    unplaced: &[u64; MOST_HOLDERS],
 )
     requires { ⌜ Sizes (now state) interties holders ⌝ }
-    ensures { λ _. ⌜ now (state .exit) ≡ stageWritten interties holders (now (unassigned .entry)) (now (unplaced .entry)) (now (state .entry)) ⌝ }
+    ensures { λ _. ⌜ now (state .exit) ≡ stageWritten interties holders
+        (now (unassigned .entry)) (now (unplaced .entry)) (now (state .entry)) ⌝ }
 {
     state::store(state, layout::YEAR, layout::STAGE, stages::TRADING);
     state::store(state, layout::YEAR, layout::LAST_DAY, 0);
@@ -119,10 +137,10 @@ fn write_stage(
 
 // No sellers and no takings.
 fn clear_rows(state: &mut [u32], holders: usize)
-    requires { ⌜ (16000 ≤ length (now state)) × (holders ≤ 32) ⌝ }
+    requires { ⌜ (stateWords ≤ length (now state)) × (holders ≤ mostHolders) ⌝ }
     ensures { λ _. ⌜ now (state .exit) ≡ rowsCleared holders (now (state .entry)) ⌝ }
 {
-    let zeros = [0u64; 48];
+    let zeros = [0u64; MOST_INTERTIES];
     state_rows::store_row(state, layout::SELLERS as usize, holders, &zeros);
     state_rows::store_row(state, layout::LAST_WEEK as usize, holders, &zeros);
     state_rows::store_row(state, layout::TAKINGS as usize, holders, &zeros);
@@ -133,7 +151,7 @@ fn clear_pairs(state: &mut [u32], interties: usize, holders: usize)
     requires { ⌜ Sizes (now state) interties holders ⌝ }
     ensures { λ _. ⌜ now (state .exit) ≡ pairsCleared interties holders (now (state .entry)) ⌝ }
 {
-    let zeros = [0u64; 1536];
+    let zeros = [0u64; MOST_PAIRS];
     state_rows::store_pairs(state, layout::PLACED as usize, holders, interties, &zeros);
     state_rows::store_pairs(state, layout::TAKEN as usize, holders, interties, &zeros);
     state_rows::store_pairs(state, layout::LOCKED as usize, holders, interties, &zeros);
@@ -149,14 +167,16 @@ pub fn write_state(
     kw: &[u64; SLOTS],
     interties: usize,
     holders: usize,
-    shares: &[u64; 32],
-    totals: &[u64; 32],
-    held: &[u64; 32],
-    pre_ra: &[u64; 1536],
-    new_use: &[u64; 1536],
-    unassigned: &[u64; 48],
+    shares: &[u64; MOST_HOLDERS],
+    totals: &[u64; MOST_HOLDERS],
+    held: &[u64; MOST_HOLDERS],
+    pre_ra: &[u64; MOST_PAIRS],
+    new_use: &[u64; MOST_PAIRS],
+    unassigned: &[u64; MOST_INTERTIES],
 )
-    ensures { λ _. ⌜ now (state .exit) ≡ written (now (kw .entry)) interties holders (now (shares .entry)) (now (totals .entry)) (now (held .entry)) (now («pre_ra» .entry)) (now («new_use» .entry)) (now (unassigned .entry)) (now (state .entry)) ⌝ }
+    ensures { λ _. ⌜ now (state .exit) ≡ written (now (kw .entry)) interties holders
+        (now (shares .entry)) (now (totals .entry)) (now (held .entry))
+        (now («pre_ra» .entry)) (now («new_use» .entry)) (now (unassigned .entry)) (now (state .entry)) ⌝ }
 {
     if !fit_sizes(state.len(), interties, holders) {
         return;

@@ -1,13 +1,15 @@
 -- The rows of Steps 5 to 7, as the code finds them.
-use Prim.Native.Nat.{ℕ, _+_, _-_, _*_, _≤_, _<_}
+use Prim.Native.Nat.{ℕ, _+_, _-_, _*_, _%_, _^_, _≤_, _<_}
 use mathlib.Core.Path.{_≡_, refl, sym, ap, _∙_}
 use mathlib.Core.List.{List}
+use native.Mathlib.Nat.{mod-eq-of-lt}
 use native.Mathlib.Omega.{arith}
 use lib.ListN.{length}
 use borrow.Rule.Slice.PartMut.{midOf}
 use Rattle.base.specs.Sums.{sumTo}
 use Rattle.base.specs.Words.{at, tab}
-use Rattle.base.proofs.SumLaws.{sumTo-same, sumTo-term}
+use Rattle.base.proofs.SumLaws.{sumTo-same, sumTo-term, sumTo-bound}
+use Rattle.base.proofs.VectorLaws.{sum-part}
 use Rattle.base.proofs.WordLaws.{at-tab, length-tab}
 use Rattle.sheet_reading.specs.Tables.{loadShareSlot}
 use Rattle.step_5.specs.Shares.{step5Shares}
@@ -16,7 +18,16 @@ use Rattle.step_5.specs.Workers.Fit.{Accepted}
 use Rattle.step_5.proofs.OutcomeLaws.{outcome-accepted, shares-whole}
 use Rattle.step_5.proofs.Promise.{promise}
 use Rattle.steps_2_to_4.proofs.ClaimLaws.{mid-tab}
-use Rattle.opening.specs.Figures.{KwTables, heldFrom, HeldGiven, HeldTaken}
+use Rattle.opening.specs.Workers.Figures.{KwTables, heldFrom, HeldGiven, HeldTaken}
+
+-- the sum of a part of a table
+pub part-sum : (r a e I : ℕ) (l : List ℕ) → r ≡ sumTo (length (midOf a (e - a) l)) (at (midOf a (e - a) l)) % 2 ^ 64 →
+    e ≡ a + I → e ≤ length l → I ≤ 48 → ((c : ℕ) → c < I → at l (a + c) ≤ 20000000) → (r ≡ sumTo I (λ c. at l (a + c))) × (r ≤ 960000000)
+part-sum r a e I l is end inside few most =
+    let small : sumTo I (λ c. at l (a + c)) ≤ I * 20000000 = sumTo-bound I 20000000 (λ c. at l (a + c)) most in
+    let same : r ≡ sumTo I (λ c. at l (a + c)) =
+    is ∙ ap (λ (k : ℕ). k % 2 ^ 64) (sum-part a e I l end inside) ∙ mod-eq-of-lt (omega (arith, small, few)) in
+    (same, omega (arith, same, small, few))
 
 -- the tables of one holder more
 pub first-holders : (I H h : ℕ) (kw preRa newUse : List ℕ) → KwTables I H kw preRa newUse → h < H → KwTables I (h + 1) kw preRa newUse

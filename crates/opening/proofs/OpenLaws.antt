@@ -1,4 +1,4 @@
--- The steps one after the other: what `carry_out` hands from each to the next, and what it leaves.
+-- The steps one after the other: what `steps_2_to_7` hands from each to the next, and what it leaves.
 use Prim.Native.Nat.{ℕ, _+_, _-_, _≤_, _<_}
 use mathlib.Core.Path.{_≡_, refl, sym, ap, _∙_}
 use mathlib.Core.Bool.{true, _&&_}
@@ -22,20 +22,21 @@ use Rattle.step_5.proofs.Promise.{promise}
 use Rattle.steps.specs.Inputs.{Inputs}
 use Rattle.steps.specs.Tables.{ofTables}
 use Rattle.steps.specs.Valid.{Valid}
-use Rattle.steps.specs.Step2.{availableTotal}
+use Rattle.steps.specs.Step2.{availableTotal, loadShareQuantity}
 use Rattle.steps.specs.Step4a.{preRaGranted}
 use Rattle.steps.specs.Step4b.{newUseGranted}
 use Rattle.steps.specs.Step5to7.{heldOn, held, step5Share, step7Total, unassigned}
 use Rattle.steps.proofs.BoundLaws.{total-most, held-total, held-on-most}
-use Rattle.steps_2_to_4.specs.Vectors.{pairAt, Row, Pairs}
+use Rattle.intertie_shares.specs.Pairs.{pairAt}
+use Rattle.steps_2_to_4.specs.Workers.Vectors.{Row, Pairs}
 use Rattle.steps_2_to_4.specs.Reserved.{Outcome, reserved}
 use Rattle.steps_2_to_4.proofs.StepLaws.{InRange, tables-fit, reserved-is}
 use Rattle.opened_state.specs.Write.{fitSizes, written}
-use Rattle.opening.specs.Figures.{KwTables, heldFrom, HeldGiven, HeldTaken}
+use Rattle.opening.specs.Workers.Figures.{KwTables, heldFrom, HeldGiven, HeldTaken}
 use Rattle.opening.specs.Opened.{openedState}
 use Rattle.opening.proofs.WriteLaws.{Given, opened-written}
 
--- `carry_out` lends the first numbers of its own rows
+-- `steps_2_to_7` lends the first numbers of its own rows
 pub front-size : (n size : ℕ) → n ≤ size → length {A = ℕ} (take n (replicate size 0)) ≡ n
 front-size n size few = length-take-le n (replicate size 0) (omega (arith, length-replicate {A = ℕ} size 0))
 
@@ -47,23 +48,28 @@ module _ (kw ties : List ℕ) (I H : ℕ) (v : Valid (ofTables I H kw ties)) (kw
   in-range = record { few = v .interties-most; small = v .holders-most; limits = v .limit-most; load-shares = v .load-share-most }
 
   -- what Steps 2 to 4b leave
-  module _ (left preRa newUse : List ℕ) (total : ℕ)
-      (e : record { total = total; left = left; preRa = preRa; newUse = newUse } ≡ reserved kw ties I H (replicate 48 0) (replicate 1536 0) (replicate 1536 0)) where
+  module _ (row quantities left preRa newUse : List ℕ) (total : ℕ)
+      (e : record { total = total; quantities = quantities; left = left; preRa = preRa; newUse = newUse }
+      ≡ reserved kw ties I H row (replicate 48 0) (replicate 1536 0) (replicate 1536 0)) where
     -- that is what the steps give
     abbrev given-by-steps : Outcome
     given-by-steps =
         record {
           total = availableTotal y;
+          quantities = fill H (loadShareQuantity y) row;
           left = fill I (unassigned y) (replicate 48 0);
           preRa = fillTable I H (preRaGranted y) (replicate 1536 0);
           newUse = fillTable I H (newUseGranted y) (replicate 1536 0);
         }
 
-    done : record { total = total; left = left; preRa = preRa; newUse = newUse } ≡ given-by-steps
-    done = e ∙ reserved-is kw ties I H (replicate 48 0) (replicate 1536 0) (replicate 1536 0) (tables-fit kw I H in-range)
+    done : record { total = total; quantities = quantities; left = left; preRa = preRa; newUse = newUse } ≡ given-by-steps
+    done = e ∙ reserved-is kw ties I H row (replicate 48 0) (replicate 1536 0) (replicate 1536 0) (tables-fit kw I H in-range)
 
     pub total-is : total ≡ availableTotal y
     total-is = ap (λ (o : Outcome). o .total) done
+
+    pub quantities-are : quantities ≡ fill H (loadShareQuantity y) row
+    quantities-are = ap (λ (o : Outcome). o .quantities) done
 
     remain : Row I left (unassigned y)
     remain i l =

@@ -10,9 +10,11 @@ use lib.ListN.{length}
 use borrow.Author.Tests.{eq-eqb, ne-eqb, lt-ltb, le-ltb}
 use Rattle.base.specs.Choice.{pick}
 use Rattle.base.specs.Sums.{sumTo}
+use Rattle.base.specs.Words.{fill}
 use Rattle.base.specs.Answers.{refused, granted}
 use Rattle.base.proofs.ChoiceLaws.{pick-false}
 use Rattle.base.proofs.SumLaws.{sumTo-same}
+use Rattle.base.proofs.WordLaws.{fill-same}
 use Rattle.base.specs.Limits.{stateWords}
 use Rattle.sheet_records.specs.Sheet as Sheet
 use Rattle.sheet_records.specs.Refusal.{sheetRefusal}
@@ -23,12 +25,12 @@ use Rattle.sheet_reading.proofs.TableLaws.{limit-at, outside-at, load-share-at,
 use Rattle.steps.specs.Inputs.{Inputs, ofSheet}
 use Rattle.steps.specs.Tables.{ofTables}
 use Rattle.steps.specs.Valid.{Valid}
-use Rattle.steps.specs.Step2.{availableTotal}
+use Rattle.steps.specs.Step2.{availableTotal, loadShareQuantity}
 use Rattle.steps.specs.Step4a.{existingOn}
-use Rattle.steps.proofs.AgreeLaws.{Agree, total-agree, pre-ra-agree, new-use-agree, held-agree, share-agree, step7-agree, unassigned-agree}
+use Rattle.steps.proofs.AgreeLaws.{Agree, total-agree, quantity-agree, pre-ra-agree, new-use-agree, held-agree, share-agree, step7-agree, unassigned-agree}
 use Rattle.steps.proofs.SheetValid.{valid-sheet}
 use Rattle.opening.specs.Opened.{openedState}
-use Rattle.opening.specs.Open.{Outcome, openRefusal, opened}
+use Rattle.opening.specs.Open.{Outcome, openRefusal, opened, quantitiesFound}
 use Rattle.opening.proofs.SameLaws.{SameFigures, same-opened}
 
 -- inputs that agree give the same figures
@@ -95,11 +97,11 @@ module _ (s : List ℕ) (e : sheetRefusal s ≡ 0) where
         fits = λ i l. omega (arith, a .outside i (few i l), existing-same i l, a .limit i (few i l), v .fits i l);
       }
 
-zero-or : (n : ℕ) → (n ≡ 0) ⊎ (n ≢ 0)
+pub zero-or : (n : ℕ) → (n ≡ 0) ⊎ (n ≢ 0)
 zero-or zero = inl refl
 zero-or (suc n) = inr (λ e. absurd (omega arith))
 
--- the call by cases: refused with the sheet's number, refused with 5, opened
+-- the call by cases: refused as the sheet is, refused with 5, opened
 module _ (sheet s : List ℕ) where
   pub open-refused : sheetRefusal sheet ≢ 0 → opened sheet s ≡ record { answer = refused (sheetRefusal sheet); state = s }
   unfolding opened openRefusal
@@ -114,15 +116,37 @@ module _ (sheet s : List ℕ) where
   unfolding opened openRefusal
   open-granted e long = rw (e, le-ltb (length s) stateWords long) refl
 
+  -- and the Load Share Quantities
+  module _ (row : List ℕ) where
+    pub found-refused : sheetRefusal sheet ≢ 0 → quantitiesFound sheet s row ≡ row
+    unfolding quantitiesFound openRefusal
+    found-refused ne = rw (ne-eqb (sheetRefusal sheet) 0 ne, ne-eqb (sheetRefusal sheet) 0 ne) refl
+
+    pub found-short : sheetRefusal sheet ≡ 0 → length s < 16000 → quantitiesFound sheet s row ≡ row
+    unfolding quantitiesFound openRefusal
+    found-short e short = rw (e, lt-ltb (length s) stateWords short) refl
+
+    pub found-granted : sheetRefusal sheet ≡ 0 → 16000 ≤ length s →
+        quantitiesFound sheet s row ≡ fill (Sheet.holders sheet) (loadShareQuantity (ofSheet sheet)) row
+    unfolding quantitiesFound openRefusal
+    found-granted e long = rw (e, le-ltb (length s) stateWords long) refl
+
   -- what the tables give is what the sheet gives
   module _ (e : sheetRefusal sheet ≡ 0) (long : 16000 ≤ length s) where
-    open-done : (total : ℕ) (after : List ℕ) →
-        (total ≡ availableTotal (read sheet e)) × (after ≡ openedState (read sheet e) s) →
-        (granted total 0 ≡ opened sheet s .answer) × (after ≡ opened sheet s .state)
-    open-done total after r =
-        let done = open-granted e long in (
+    open-done : (total : ℕ) (row found after : List ℕ) →
+        (total ≡ availableTotal (read sheet e))
+        × (found ≡ fill (Sheet.holders sheet) (loadShareQuantity (read sheet e)) row)
+        × (after ≡ openedState (read sheet e) s) →
+        (granted total 0 ≡ opened sheet s .answer) × (after ≡ opened sheet s .state) × (found ≡ quantitiesFound sheet s row)
+    open-done total row found after r =
+        let done = open-granted e long in
+        let v = valid-sheet sheet e in (
           ap (λ (n : ℕ). granted n 0) (r .0 ∙ total-agree (read sheet e) (ofSheet sheet) (tables-agree sheet e)) ∙ sym (ap (λ (o : Outcome). o .answer) done),
-          r .1 ∙ same-opened (read sheet e) (ofSheet sheet) (agree-figures (read sheet e) (ofSheet sheet) (tables-agree sheet e)) s ∙ sym (ap (λ (o : Outcome). o .state) done),
+          r .2 ∙ same-opened (read sheet e) (ofSheet sheet) (agree-figures (read sheet e) (ofSheet sheet) (tables-agree sheet e)) s ∙ sym (ap (λ (o : Outcome). o .state) done),
+          r .1
+              ∙ fill-same (Sheet.holders sheet) (loadShareQuantity (read sheet e)) (loadShareQuantity (ofSheet sheet)) row
+              (λ h l. quantity-agree (read sheet e) (ofSheet sheet) (tables-agree sheet e) h (omega (arith, v .holders-most)))
+              ∙ sym (found-granted row e long),
         )
 
 -- a reading that answers 0, and the sizes it is asked for
@@ -147,10 +171,17 @@ module _ (sheet counts₀ kw₀ ties₀ counts kw ties : List ℕ) (number : ℕ
     pub read-valid : Valid (ofTables I H kw ties)
     read-valid = rw same (tables-valid sheet stands)
 
-    pub read-opened : (s : List ℕ) → 16000 ≤ length s → (total : ℕ) (after : List ℕ) →
-        (total ≡ availableTotal (ofTables I H kw ties)) × (after ≡ openedState (ofTables I H kw ties) s) →
-        (granted total 0 ≡ opened sheet s .answer) × (after ≡ opened sheet s .state)
-    read-opened s long total after e = open-done sheet s stands long total after (rw same at e)
+    pub read-opened : (s row : List ℕ) → 16000 ≤ length s → (total : ℕ) (found after : List ℕ) →
+        (total ≡ availableTotal (ofTables I H kw ties))
+        × (found ≡ fill H (loadShareQuantity (ofTables I H kw ties)) row)
+        × (after ≡ openedState (ofTables I H kw ties) s) →
+        (granted total 0 ≡ opened sheet s .answer) × (after ≡ opened sheet s .state) × (found ≡ quantitiesFound sheet s row)
+    read-opened s row long total found after e =
+        open-done sheet s stands long total row found after (
+          e .0 ∙ ap (λ (z : Inputs). availableTotal z) same,
+          e .1 ∙ ap (λ (z : Inputs). fill (z .holders) (loadShareQuantity z) row) same,
+          e .2 ∙ ap (λ (z : Inputs). openedState z s) same,
+        )
 
 -- over 16,000 words the refusal is the sheet's
 pub whole-number : (sheet s : List ℕ) → 16000 ≤ length s → opened sheet s .answer .refusal ≡ sheetRefusal sheet

@@ -16,7 +16,7 @@ use Rattle.steps.specs.Step4a.{preRaGranted}
 use Rattle.steps.specs.Step4b.{newUseGranted}
 use Rattle.steps.specs.Step5to7.{heldOn, held, step5Share, step7Total, unassigned}
 use Rattle.steps.proofs.BoundLaws.{held-on-most, held-most, share-most, step7-total-most, unassigned-most, limit-parts}
-use Rattle.steps_2_to_4.specs.Vectors.{Row, Pairs}
+use Rattle.steps_2_to_4.specs.Workers.Vectors.{Row, Pairs}
 use Rattle.opened_state.specs.Write.{low, sizesWritten, figuresWritten, reservedWritten, stageWritten, rowsCleared, pairsCleared, stateWritten}
 use Rattle.opening.specs.Opened.{sizeWords, figureWords, reservedWords, stageWords, clearedWords, openedState}
 

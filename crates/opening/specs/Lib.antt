@@ -1,3 +1,3 @@
 pub mod Opened
 pub mod Open
-pub mod Figures
+pub mod Workers

@@ -1,11 +1,14 @@
--- The year's state after opening: every word that the rules name, for the holders below H and the interties below I. The other words stay.
+-- The year's state after opening (docs/RULES.md, "The year's state"): every word that the rules name, for the holders below H and the
+-- interties below I. The other words stay.
 use Prim.Native.Nat.{ℕ}
 use mathlib.Core.List.{List}
 use lib.ListN.{set}
 use Rattle.base.specs.Stages.{tradingStage}
 use Rattle.state.specs.Layout.{intertiesAt, holdersAt, stageAt, lastDayAt}
-use Rattle.state.specs.Layout.{limitRow, outsideRow, loadShareRow, step5ShareRow, step7TotalRow, reservedRow, existingRow, preRaRow, newUseRow}
-use Rattle.state.specs.Layout.{unassignedRow, unplacedRow, sellersRow, lastWeekRow, takingsRow, placedRow, takenRow, lockedRow, termRow, pendingRow}
+use Rattle.state.specs.Layout.{limitRow, outsideRow, loadShareRow, step5ShareRow, step7TotalRow, reservedRow}
+use Rattle.state.specs.Layout.{existingRow, preRaRow, newUseRow}
+use Rattle.state.specs.Layout.{unassignedRow, unplacedRow, sellersRow, lastWeekRow, takingsRow}
+use Rattle.state.specs.Layout.{placedRow, takenRow, lockedRow, termRow, pendingRow}
 use Rattle.state_rows.specs.Rows.{fillRow, fillPairs}
 use Rattle.steps.specs.Inputs.{Inputs}
 use Rattle.steps.specs.Step4a.{preRaGranted}
@@ -43,7 +46,9 @@ module _ (y : Inputs) where
 
   -- stage 1, no taking yet; unassigned = available - E - P - N, unplaced = Step 5 share
   unfoldable pub stageWords : List ℕ → List ℕ
-  stageWords s = perHolder unplacedRow (step5Share y) (perIntertie unassignedRow (unassigned y) (set (set s stageAt tradingStage) lastDayAt 0))
+  stageWords s =
+      perHolder unplacedRow (step5Share y)
+      (perIntertie unassignedRow (unassigned y) (set (set s stageAt tradingStage) lastDayAt 0))
 
   -- the rest 0: sellers, last takings' weeks and takings; placed, taken, locked, lock terms and pending
   unfoldable pub clearedWords : List ℕ → List ℕ
@@ -57,5 +62,6 @@ module _ (y : Inputs) where
       (perHolder lastWeekRow (λ h. 0)
       (perHolder sellersRow (λ h. 0) s)))))))
 
+  -- all of them
   unfoldable pub openedState : List ℕ → List ℕ
   openedState s = clearedWords (stageWords (reservedWords (figureWords (sizeWords s))))

@@ -1,4 +1,4 @@
--- Case i of 01's table of examples: what `post` prints of its sheet, for any numbers that stood in the ten rows before.
+-- Case i (docs/RULES.md, "Examples"): what `post` prints of its sheet, for any numbers that stood in the ten rows before.
 use Prim.Native.Nat.{ℕ, _+_, _-_, _*_, _/_, _%_}
 use mathlib.Core.Path.{_≡_, refl, sym, ap, _∙_}
 use mathlib.Core.List.{List, [], _∷_, _++_, map}

@@ -1,2 +1,3 @@
 pub mod PostLaws
+pub mod PostedRows
 pub mod Examples

@@ -1,7 +1,7 @@
 -- The lines that an opened state's words give are those of the steps.
-use Prim.Native.Nat.{ℕ, zero, suc, _+_, _*_, _/_, _≤_, _<_}
+use Prim.Native.Nat.{ℕ, _+_, _*_, _≤_, _<_}
 use mathlib.Core.Path.{_≡_, refl, sym, ap, _∙_}
-use mathlib.Core.Logic.{_≢_, _⊎_, inl, inr, ⊎-elim}
+use mathlib.Core.Logic.{_≢_, ⊎-elim}
 use mathlib.Core.List.{List}
 use native.Mathlib.Nat.{le-refl}
 use native.Mathlib.Omega.{arith}
@@ -13,24 +13,24 @@ use Rattle.base.specs.Words.{at}
 use Rattle.base.specs.declared.Answer.{Answer}
 use Rattle.base.specs.Answers.{refused, granted}
 use Rattle.base.proofs.SumLaws.{sumTo-same}
+use Rattle.base.proofs.WordLaws.{at-fill}
 use Rattle.state.specs.Layout.{interties, holders}
 use Rattle.sheet_records.specs.Refusal.{sheetRefusal}
 use Rattle.state_rows.specs.Rows.{fillRow}
 use Rattle.steps.specs.Inputs.{Inputs, ofSheet}
 use Rattle.steps.specs.Valid.{Valid}
-use Rattle.steps.specs.Step2.{availableTotal, allLoadShares, loadShareQuantity}
+use Rattle.steps.specs.Step2.{availableTotal, loadShareQuantity}
 use Rattle.steps.specs.Step4a.{existingOn, preRaGranted}
 use Rattle.steps.specs.Step4b.{newUseGranted}
 use Rattle.steps.specs.Step5to7.{held, step5Share, unassigned}
-use Rattle.steps.proofs.BoundLaws.{total-most}
 use Rattle.steps.proofs.SheetValid.{valid-sheet}
 use Rattle.opening.specs.Opened.{openedState}
-use Rattle.opening.specs.Open.{Outcome, opened}
+use Rattle.opening.specs.Open.{Outcome, opened, quantitiesFound}
 use Rattle.opening.proofs.OpenedLaws.{Opened, opened-state}
-use Rattle.opening.proofs.TableOpening.{open-refused, open-granted}
+use Rattle.opening.proofs.TableOpening.{zero-or, open-refused, open-granted, found-granted}
 use Rattle.opening.proofs.WriteLaws.{row-same}
 use Rattle.posting.specs.Post.{preRaOn, newUseOn, intertieLines, holderLines, Posted, posted}
-use Rattle.posting.specs.Fit.{Readable, rowWord, fieldOn, intertiesFrom, quantityFrom, holdersFrom}
+use Rattle.posting.specs.Workers.Lines.{Readable, rowWord, fieldOn, intertiesFrom, holdersFrom}
 
 -- a state t that opening with y left
 module _ (y : Inputs) (t l : List ℕ) (o : Opened y t) (I H : ℕ) (i-is : I ≡ y .interties) (h-is : H ≡ y .holders) where
@@ -47,19 +47,13 @@ module _ (y : Inputs) (t l : List ℕ) (o : Opened y t) (I H : ℕ) (i-is : I �
       (row-same 2 _ _ _ _ _ _ i-is (field-same 7 (y .existing) (o .existing))
       (row-same 1 _ _ _ _ _ _ i-is (o .outside) (row-same 0 _ _ _ _ _ _ i-is (o .limit) refl)))))
 
-  quantity-same : (total : ℕ) → total ≡ availableTotal y → (h : ℕ) → h < y .holders → quantityFrom total H t h ≡ loadShareQuantity y h
-  unfolding loadShareQuantity allLoadShares
-  quantity-same total e h k =
-      let all : sumTo H (rowWord t 3) ≡ sumTo (y .holders) (y .loadShare) =
-      ap (λ n. sumTo n (rowWord t 3)) h-is ∙ sumTo-same (y .holders) (rowWord t 3) (y .loadShare) (o .load-share) in
-      rw (all, o .load-share h k, e) refl
-
-  pub holders-same : (total : ℕ) → total ≡ availableTotal y → (m : List ℕ) → holdersFrom total H t m ≡ holderLines y m
+  pub holders-same : (quantities : List ℕ) → ((h : ℕ) → h < y .holders → at quantities h ≡ loadShareQuantity y h) →
+      (m : List ℕ) → holdersFrom H t quantities m ≡ holderLines y m
   unfolding holderLines
-  holders-same total e m =
+  holders-same quantities found m =
       row-same 9 _ _ _ _ _ _ h-is (o .step5-share)
       (row-same 8 _ _ _ _ _ _ h-is (o .reserved)
-      (row-same 7 _ _ _ _ _ _ h-is (quantity-same total e) (row-same 6 _ _ _ _ _ _ h-is (o .load-share) refl)))
+      (row-same 7 _ _ _ _ _ _ h-is found (row-same 6 _ _ _ _ _ _ h-is (o .load-share) refl)))
 
 -- the call by cases
 module _ (sheet l : List ℕ) where
@@ -72,12 +66,9 @@ module _ (sheet l : List ℕ) where
   unfolding posted
   post-done e = rw e refl
 
-zero-or : (n : ℕ) → (n ≡ 0) ⊎ (n ≢ 0)
-zero-or zero = inl refl
-zero-or (suc n) = inr (λ e. absurd (omega arith))
-
--- an opening into 16,000 zeros: what `post` finds after it
-module _ (sheet after : List ℕ) (answer : Answer) (r : answer ≡ opened sheet (replicate 16000 0) .answer) (e : after ≡ opened sheet (replicate 16000 0) .state) where
+-- an opening into 16,000 zeros, with its Load Share Quantities: what `post` finds after it
+module _ (sheet after quantities : List ℕ) (answer : Answer) (r : answer ≡ opened sheet (replicate 16000 0) .answer)
+    (e : after ≡ opened sheet (replicate 16000 0) .state) (q : quantities ≡ quantitiesFound sheet (replicate 16000 0) (replicate 32 0)) where
   zeros-long : 16000 ≤ length {A = ℕ} (replicate 16000 0)
   zeros-long = omega (arith, length-replicate {A = ℕ} 16000 0)
 
@@ -109,6 +100,12 @@ module _ (sheet after : List ℕ) (answer : Answer) (r : answer ≡ opened sheet
         let v = valid-sheet sheet stands in
         rw after-is (opened-state (ofSheet sheet) (v .interties-most) (v .holders-most) (replicate 16000 0) zeros-long)
 
+    found-are : (h : ℕ) → h < ofSheet sheet .holders → at quantities h ≡ loadShareQuantity (ofSheet sheet) h
+    found-are h l =
+        let v = valid-sheet sheet stands in
+        ap (λ (k : List ℕ). at k h) (q ∙ found-granted sheet (replicate 16000 0) (replicate 32 0) stands zeros-long)
+        ∙ at-fill (ofSheet sheet .holders) (loadShareQuantity (ofSheet sheet)) (replicate 32 0) h l (omega (arith, v .holders-most, length-replicate {A = ℕ} 32 0))
+
     module _ (I H : ℕ) (i : I ≡ interties after) (h : H ≡ holders after) where
       i-is : I ≡ ofSheet sheet .interties
       i-is = i ∙ post-state .interties-are
@@ -116,23 +113,22 @@ module _ (sheet after : List ℕ) (answer : Answer) (r : answer ≡ opened sheet
       h-is : H ≡ ofSheet sheet .holders
       h-is = h ∙ post-state .holders-are
 
+      pub post-holders : H ≤ 32
+      post-holders =
+          let v = valid-sheet sheet stands in
+          rw h-is (v .holders-most)
+
       pub post-readable : (l : List ℕ) → length after ≡ 16000 → length l ≡ 480 → Readable I H after l
       post-readable l long room =
           let v = valid-sheet sheet stands in
           record { long = long; few = rw i-is (v .interties-most); low = rw h-is (v .holders-most); room = room }
 
-      pub post-total : answer .kw ≤ 4294967295
-      post-total =
-          let v = valid-sheet sheet stands in
-          omega (arith, ap (λ (a : Answer). a .kw) post-answer, total-most (ofSheet sheet) v)
-
-      pub post-lines : (l m n : List ℕ) → m ≡ intertiesFrom I H after l → n ≡ holdersFrom (answer .kw) H after m →
+      pub post-lines : (l m n : List ℕ) → m ≡ intertiesFrom I H after l → n ≡ holdersFrom H after quantities m →
           (answer ≡ posted sheet l .answer) × (n ≡ posted sheet l .lines)
       post-lines l m n p q =
           let done = post-done sheet l stands in
-          let first : m ≡ intertieLines (ofSheet sheet) l = p ∙ interties-same (ofSheet sheet) after l post-state I H i-is h-is in
-          let total : answer .kw ≡ availableTotal (ofSheet sheet) = ap (λ (a : Answer). a .kw) post-answer in (
+          let first : m ≡ intertieLines (ofSheet sheet) l = p ∙ interties-same (ofSheet sheet) after l post-state I H i-is h-is in (
             post-answer ∙ sym (ap (λ (o : Posted). o .answer) done),
-            q ∙ holders-same (ofSheet sheet) after l post-state I H i-is h-is (answer .kw) total m
+            q ∙ holders-same (ofSheet sheet) after l post-state I H i-is h-is quantities found-are m
                 ∙ ap (holderLines (ofSheet sheet)) first ∙ sym (ap (λ (o : Posted). o .lines) done),
           )

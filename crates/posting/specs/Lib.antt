@@ -1,2 +1,3 @@
+pub mod Rows
 pub mod Post
-pub mod Fit
+pub mod Workers

@@ -1,5 +1,6 @@
--- Program `post`: T; for each intertie its limit, outside, E, P, N, unassigned; for each holder its load share, Load Share Quantity, reserved, Step 5 share.
--- The numbers stand in ten rows of 48, a row for each figure; the columns of rows 0 to 5 are the interties, those of rows 6 to 9 the holders.
+-- Program `post` (docs/RULES.md, "Beside the year"), as numbers: T; for each intertie its limit, outside, E, P, N, unassigned; for each
+-- holder its load share, Load Share Quantity, reserved, Step 5 share. A figure has a row (`Rows`), whose columns are the interties or
+-- the holders.
 use Prim.Native.Nat.{ℕ}
 use mathlib.Core.List.{List}
 use lib.Dec.{eqb}
@@ -9,6 +10,8 @@ use Rattle.base.specs.Answers.{refused, granted}
 use Rattle.base.specs.declared.Answer.{Answer}
 use Rattle.sheet_records.specs.Refusal.{sheetRefusal}
 use Rattle.state_rows.specs.Rows.{fillRow}
+use Rattle.posting.specs.Rows.{limitLine, outsideLine, existingLine, preRaLine, newUseLine, unassignedLine}
+use Rattle.posting.specs.Rows.{loadShareLine, quantityLine, reservedLine, step5ShareLine}
 use Rattle.steps.specs.Inputs.{Inputs, ofSheet}
 use Rattle.steps.specs.Step2.{availableTotal, loadShareQuantity}
 use Rattle.steps.specs.Step4a.{existingOn, preRaGranted}
@@ -26,21 +29,22 @@ module _ (y : Inputs) where
   -- limit, outside, E, P, N, unassigned
   unfoldable pub intertieLines : List ℕ → List ℕ
   intertieLines l =
-      fillRow 5 (y .interties) (unassigned y)
-      (fillRow 4 (y .interties) newUseOn
-      (fillRow 3 (y .interties) preRaOn
-      (fillRow 2 (y .interties) (existingOn y)
-      (fillRow 1 (y .interties) (y .outside)
-      (fillRow 0 (y .interties) (y .limit) l)))))
+      fillRow unassignedLine (y .interties) (unassigned y)
+      (fillRow newUseLine (y .interties) newUseOn
+      (fillRow preRaLine (y .interties) preRaOn
+      (fillRow existingLine (y .interties) (existingOn y)
+      (fillRow outsideLine (y .interties) (y .outside)
+      (fillRow limitLine (y .interties) (y .limit) l)))))
 
   -- load share, Load Share Quantity, reserved, Step 5 share
   unfoldable pub holderLines : List ℕ → List ℕ
   holderLines l =
-      fillRow 9 (y .holders) (step5Share y)
-      (fillRow 8 (y .holders) (held y)
-      (fillRow 7 (y .holders) (loadShareQuantity y)
-      (fillRow 6 (y .holders) (y .loadShare) l)))
+      fillRow step5ShareLine (y .holders) (step5Share y)
+      (fillRow reservedLine (y .holders) (held y)
+      (fillRow quantityLine (y .holders) (loadShareQuantity y)
+      (fillRow loadShareLine (y .holders) (y .loadShare) l)))
 
+-- the answer, and the rows afterwards
 pub record Posted : Type 0 where
   pub answer : Answer
   pub lines : List ℕ
@@ -49,5 +53,8 @@ pub record Posted : Type 0 where
 unfoldable pub posted : List ℕ → List ℕ → Posted
 posted sheet l =
     pick (eqb (sheetRefusal sheet) 0)
-    (record { answer = granted (availableTotal (ofSheet sheet)) 0; lines = holderLines (ofSheet sheet) (intertieLines (ofSheet sheet) l) })
+    (record {
+      answer = granted (availableTotal (ofSheet sheet)) 0;
+      lines = holderLines (ofSheet sheet) (intertieLines (ofSheet sheet) l);
+    })
     (record { answer = refused (sheetRefusal sheet); lines = l })

@@ -1,28 +1,29 @@
-// The posting of a sheet (document 01, "Beside the year", program `post`).
+// The posting of a sheet (docs/RULES.md, "Beside the year"): what program `post` prints, as numbers.
 mod lines;
+pub mod rows;
 
 use base::Answer;
+use base::limits::MOST_HOLDERS;
 use base::limits::STATE_WORDS;
+use rows::NUMBERS;
 use state::layout;
 ghost use mathlib.Core.Path.{_≡_};
 ghost use Rattle.posting.specs.Post.{posted};
 
-// Ten rows of 48 numbers: limit, outside, E, P, N and unassigned of each intertie; load share, Load
-// Share Quantity, reserved and Step 5 share of each holder.
-pub const NUMBERS: usize = 480;
-
-// Posts a sheet: T and the numbers of its lines, or its refusal.
+// Posts a sheet: T and the numbers of its lines, a row for each figure, or its refusal.
 pub fn post(sheet: &[u8], lines: &mut [u64; NUMBERS]) -> Answer
-    ensures { λ r. ⌜ (r ≡ posted (now (sheet .entry)) (now (lines .entry)) .answer) × (now (lines .exit) ≡ posted (now (sheet .entry)) (now (lines .entry)) .lines) ⌝ }
+    ensures { λ r. let p = posted (now (sheet .entry)) (now (lines .entry)) in
+        ⌜ (r ≡ p .answer) × (now (lines .exit) ≡ p .lines) ⌝ }
 {
     let mut state = [0u32; STATE_WORDS];
-    let answer = opening::open(sheet, &mut state);
+    let mut quantities = [0u64; MOST_HOLDERS];
+    let answer = opening::open_with_quantities(sheet, &mut state, &mut quantities);
     if answer.refusal != 0 {
         return answer;
     }
     let interties = state::word(&state, layout::SIZES, layout::INTERTIES) as usize;
     let holders = state::word(&state, layout::SIZES, layout::HOLDERS) as usize;
     lines::intertie_lines(&state, interties, holders, lines);
-    lines::holder_lines(&state, answer.kw, interties, holders, lines);
+    lines::holder_lines(&state, &quantities, holders, lines);
     answer
 }

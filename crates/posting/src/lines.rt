@@ -1,27 +1,33 @@
 // The numbers of the posting, read from an opened state.
+use super::rows;
+use base::limits::MOST_HOLDERS;
 use state::layout;
+use state::layout::ROW_WORDS;
 ghost use mathlib.Core.Path.{_≡_};
-ghost use Prim.Native.Nat.{ℕ, _+_, _*_, _/_, _≤_, _<_};
+ghost use Prim.Native.Nat.{ℕ, _+_, _*_, _≤_, _<_, _^_};
 ghost use lib.ListN.{length};
-ghost use Rattle.base.specs.Sums.{sumTo};
+ghost use Rattle.base.specs.Limits.{mostInterties, mostHolders, stateWords};
 ghost use Rattle.base.specs.Words.{at};
-ghost use Rattle.state.specs.Layout.{place};
+ghost use Rattle.state.specs.Layout.{wholeRows, lastRow};
 ghost use Rattle.state_rows.specs.Rows.{fillRow};
-ghost use Rattle.posting.specs.Fit.{Readable, rowWord, fieldOn, intertiesFrom, quantityFrom, holdersFrom};
+ghost use Rattle.posting.specs.Rows.{postingRows, postingNumbers, quantityLine};
+ghost use Rattle.posting.specs.Workers.Lines.{Readable, rowWord, fieldOn, intertiesFrom, holdersFrom};
 
+// A word as a number.
 fn wide(word: u32) -> u64
-    ensures { λ r. ⌜ (r ≡ word) × (r ≤ 4294967295) ⌝ }
+    ensures { λ r. ⌜ (r ≡ word) × (r < 2 ^ 32) ⌝ }
 {
     word as u64
 }
 
 // Copies the first words of a row of the state.
 fn copy_row(state: &[u32], row: usize, count: usize, lines: &mut [u64], to: usize)
-    requires { ⌜ (length (now state) ≡ 16000) × (row < 333) × (count ≤ 48) × (to < 10) × (length (now lines) ≡ 480) ⌝ }
+    requires { ⌜ (length (now state) ≡ stateWords) × (row < wholeRows) × (count ≤ mostInterties) × (to < postingRows)
+        × (length (now lines) ≡ postingNumbers) ⌝ }
     ensures { λ _. ⌜ now (lines .exit) ≡ fillRow to count (rowWord (now (state .entry)) row) (now (lines .entry)) ⌝ }
 {
-    let from = 48 * row;
-    let first = 48 * to;
+    let from = ROW_WORDS * row;
+    let first = ROW_WORDS * to;
     let mut c = 0;
     while c < count {
         lines[first + c] = wide(state[from + c]);
@@ -31,13 +37,13 @@ fn copy_row(state: &[u32], row: usize, count: usize, lines: &mut [u64], to: usiz
 
 // A field of the pairs on an intertie, summed over the holders.
 fn field_on(state: &[u32], field: usize, holders: usize, intertie: usize) -> u64
-    requires { ⌜ (length (now state) ≡ 16000) × (field ≤ 300) × (holders ≤ 32) × (intertie < 48) ⌝ }
+    requires { ⌜ (length (now state) ≡ stateWords) × (field ≤ lastRow) × (holders ≤ mostHolders) × (intertie < mostInterties) ⌝ }
     ensures { λ r. ⌜ r ≡ fieldOn (now (state .entry)) field holders intertie ⌝ }
 {
     let mut sum: u64 = 0;
     let mut holder = 0;
     while holder < holders {
-        sum += wide(state[48 * (field + holder) + intertie]);
+        sum += wide(state[ROW_WORDS * (field + holder) + intertie]);
         holder += 1;
     }
     sum
@@ -52,10 +58,11 @@ fn sum_row(
     lines: &mut [u64],
     to: usize,
 )
-    requires { ⌜ (length (now state) ≡ 16000) × (field ≤ 300) × (holders ≤ 32) × (interties ≤ 48) × (to < 10) × (length (now lines) ≡ 480) ⌝ }
+    requires { ⌜ (length (now state) ≡ stateWords) × (field ≤ lastRow) × (holders ≤ mostHolders) × (interties ≤ mostInterties)
+        × (to < postingRows) × (length (now lines) ≡ postingNumbers) ⌝ }
     ensures { λ _. ⌜ now (lines .exit) ≡ fillRow to interties (fieldOn (now (state .entry)) field holders) (now (lines .entry)) ⌝ }
 {
-    let first = 48 * to;
+    let first = ROW_WORDS * to;
     let mut intertie = 0;
     while intertie < interties {
         lines[first + intertie] = field_on(state, field, holders, intertie);
@@ -68,64 +75,56 @@ pub(super) fn intertie_lines(state: &[u32], interties: usize, holders: usize, li
     requires { ⌜ Readable interties holders (now state) (now lines) ⌝ }
     ensures { λ _. ⌜ now (lines .exit) ≡ intertiesFrom interties holders (now (state .entry)) (now (lines .entry)) ⌝ }
 {
-    copy_row(state, layout::LIMIT as usize, interties, lines, 0);
-    copy_row(state, layout::OUTSIDE as usize, interties, lines, 1);
+    copy_row(state, layout::LIMIT as usize, interties, lines, rows::LIMIT);
+    copy_row(
+        state,
+        layout::OUTSIDE as usize,
+        interties,
+        lines,
+        rows::OUTSIDE,
+    );
     sum_row(
         state,
         layout::EXISTING as usize,
         holders,
         interties,
         lines,
-        2,
+        rows::EXISTING,
     );
-    sum_row(state, layout::PRE_RA as usize, holders, interties, lines, 3);
+    sum_row(
+        state,
+        layout::PRE_RA as usize,
+        holders,
+        interties,
+        lines,
+        rows::PRE_RA,
+    );
     sum_row(
         state,
         layout::NEW_USE as usize,
         holders,
         interties,
         lines,
-        4,
+        rows::NEW_USE,
     );
-    copy_row(state, layout::UNASSIGNED as usize, interties, lines, 5);
+    copy_row(
+        state,
+        layout::UNASSIGNED as usize,
+        interties,
+        lines,
+        rows::UNASSIGNED,
+    );
 }
 
-// All load shares.
-fn all_load_shares(state: &[u32], holders: usize) -> u64
-    requires { ⌜ (length (now state) ≡ 16000) × (holders ≤ 32) ⌝ }
-    ensures { λ r. ⌜ r ≡ sumTo holders (rowWord (now (state .entry)) 3) ⌝ }
+// Copies the Load Share Quantities of the holders.
+fn copy_quantities(quantities: &[u64; MOST_HOLDERS], holders: usize, lines: &mut [u64])
+    requires { ⌜ (holders ≤ mostHolders) × (length (now lines) ≡ postingNumbers) ⌝ }
+    ensures { λ _. ⌜ now (lines .exit) ≡ fillRow quantityLine holders (at (now (quantities .entry))) (now (lines .entry)) ⌝ }
 {
-    let first = 48 * (layout::LOAD_SHARE as usize);
-    let mut sum: u64 = 0;
+    let first = ROW_WORDS * rows::LOAD_SHARE_QUANTITY;
     let mut holder = 0;
     while holder < holders {
-        sum += wide(state[first + holder]);
-        holder += 1;
-    }
-    sum
-}
-
-// Load Share Quantity = T × load share / all load shares, rounded down; 0 if all are 0.
-fn quantity(total: u64, load: u32, all: u64) -> u64
-    requires { ⌜ total ≤ 4294967295 ⌝ }
-    ensures { λ r. ⌜ r ≡ total * load / all ⌝ }
-{
-    if all == 0 {
-        return 0;
-    }
-    total * wide(load) / all
-}
-
-// The Load Share Quantity of every holder.
-fn quantity_row(state: &[u32], total: u64, holders: usize, lines: &mut [u64])
-    requires { ⌜ (length (now state) ≡ 16000) × (total ≤ 4294967295) × (holders ≤ 32) × (length (now lines) ≡ 480) ⌝ }
-    ensures { λ _. ⌜ now (lines .exit) ≡ fillRow 7 holders (quantityFrom total holders (now (state .entry))) (now (lines .entry)) ⌝ }
-{
-    let first = 48 * (layout::LOAD_SHARE as usize);
-    let all = all_load_shares(state, holders);
-    let mut holder = 0;
-    while holder < holders {
-        lines[336 + holder] = quantity(total, state[first + holder], all);
+        lines[first + holder] = quantities[holder];
         holder += 1;
     }
 }
@@ -133,16 +132,33 @@ fn quantity_row(state: &[u32], total: u64, holders: usize, lines: &mut [u64])
 // Load share, Load Share Quantity, reserved and Step 5 share of each holder.
 pub(super) fn holder_lines(
     state: &[u32],
-    total: u64,
-    interties: usize,
+    quantities: &[u64; MOST_HOLDERS],
     holders: usize,
     lines: &mut [u64],
 )
-    requires { ⌜ Readable interties holders (now state) (now lines) × (total ≤ 4294967295) ⌝ }
-    ensures { λ _. ⌜ now (lines .exit) ≡ holdersFrom total holders (now (state .entry)) (now (lines .entry)) ⌝ }
+    requires { ⌜ (length (now state) ≡ stateWords) × (holders ≤ mostHolders) × (length (now lines) ≡ postingNumbers) ⌝ }
+    ensures { λ _. ⌜ now (lines .exit) ≡ holdersFrom holders (now (state .entry)) (now (quantities .entry)) (now (lines .entry)) ⌝ }
 {
-    copy_row(state, layout::LOAD_SHARE as usize, holders, lines, 6);
-    quantity_row(state, total, holders, lines);
-    copy_row(state, layout::RESERVED as usize, holders, lines, 8);
-    copy_row(state, layout::STEP_5_SHARE as usize, holders, lines, 9);
+    copy_row(
+        state,
+        layout::LOAD_SHARE as usize,
+        holders,
+        lines,
+        rows::LOAD_SHARE,
+    );
+    copy_quantities(quantities, holders, lines);
+    copy_row(
+        state,
+        layout::RESERVED as usize,
+        holders,
+        lines,
+        rows::RESERVED,
+    );
+    copy_row(
+        state,
+        layout::STEP_5_SHARE as usize,
+        holders,
+        lines,
+        rows::STEP_5_SHARE,
+    );
 }

@@ -1,44 +1,38 @@
 // The posting as text. Each function writes from a place on and answers the place after it.
-use posting::NUMBERS;
+use base::limits::MOST_HOLDERS;
+use base::limits::MOST_INTERTIES;
+use posting::rows;
+use posting::rows::NUMBERS;
+use state::layout::ROW_WORDS;
+use text::put;
+use text::put_figure;
 ghost use mathlib.Core.Path.{_≡_};
 ghost use Prim.Native.Nat.{_+_, _*_, _≤_, _<_};
 ghost use mathlib.Core.List.{_∷_, []};
 ghost use lib.ListN.{length};
+ghost use Rattle.base.specs.Limits.{mostInterties, mostHolders};
 ghost use Rattle.io.specs.Counts.{Counts};
 ghost use Rattle.text.specs.Written.{written};
-ghost use Rattle.text.specs.Lines.{blank, figure};
-ghost use Rattle.posting_text.specs.Text.{each, shortLine, columnFigures, longLine, postingText, textOf};
+ghost use Rattle.text.specs.Lines.{blank, figureBytes, figuresOf};
+ghost use Rattle.posting.specs.Rows.{postingRows};
+ghost use Rattle.posting_text.specs.Text.{line, each, textOf};
+ghost use Rattle.posting_text.specs.Workers.Columns.{intertieRows, shortBytes, longBytes, textBytes};
+ghost use Rattle.posting_text.specs.Workers.Columns.{columnOf, columnLine, linesText};
 
-// Room for 81 lines of at most 149 bytes: a letter, seven numbers of at most 20 digits, each after a
-// blank, and the end of the line.
-pub const TEXT_BYTES: usize = 12_069;
+// The most bytes of a line: a letter, seven numbers of at most 20 digits, each after a blank, and the end of the line.
+const LINE_BYTES: usize = 149;
 
-fn put(byte: u8, out: &mut [u8], at: usize) -> usize
-    requires { ⌜ at < length (now out) ⌝ }
-    ensures { λ r. ⌜ (r ≡ at + 1) × (now (out .exit) ≡ written at (byte ∷ []) (now (out .entry))) ⌝ }
-{
-    out[at] = byte;
-    at + 1
-}
-
-// A blank and a number.
-fn put_figure(number: u64, out: &mut [u8], at: usize) -> usize
-    requires { ⌜ at + 21 ≤ length (now out) ⌝ }
-    ensures { λ r. ⌜ (r ≡ at + length (figure blank number)) × (now (out .exit) ≡ written at (figure blank number) (now (out .entry))) ⌝ }
-{
-    let mut digits = [0u8; 20];
-    let count = io::decimal(number, &mut digits);
-    let next = put(b' ', out, at);
-    text::put_within(&digits[..count], out, next)
-}
+// Room for the line of T and one for each intertie and holder.
+pub const TEXT_BYTES: usize = (1 + MOST_INTERTIES + MOST_HOLDERS) * LINE_BYTES;
 
 // A letter and a number.
 fn put_short_line(letter: u8, number: u64, out: &mut [u8], at: usize) -> usize
-    requires { ⌜ at + 23 ≤ length (now out) ⌝ }
-    ensures { λ r. ⌜ (r ≡ at + length (shortLine letter number)) × (now (out .exit) ≡ written at (shortLine letter number) (now (out .entry))) ⌝ }
+    requires { ⌜ at + shortBytes ≤ length (now out) ⌝ }
+    ensures { λ r. let text = line letter (number ∷ []) in
+        ⌜ (r ≡ at + length text) × (now (out .exit) ≡ written at text (now (out .entry))) ⌝ }
 {
     let number_at = put(letter, out, at);
-    let end = put_figure(number, out, number_at);
+    let end = put_figure(number, b' ', out, number_at);
     put(b'\n', out, end)
 }
 
@@ -51,13 +45,15 @@ fn put_column(
     out: &mut [u8],
     at: usize,
 ) -> usize
-    requires { ⌜ (first + rows ≤ 10) × (rows ≤ 6) × (column < 48) × (at + 21 * rows ≤ length (now out)) ⌝ }
-    ensures { λ r. ⌜ (r ≡ at + length (columnFigures first rows (now (numbers .entry)) column)) × (now (out .exit) ≡ written at (columnFigures first rows (now (numbers .entry)) column) (now (out .entry))) ⌝ }
+    requires { ⌜ (first + rows ≤ postingRows) × (rows ≤ intertieRows) × (column < mostInterties)
+        × (at + figureBytes * rows ≤ length (now out)) ⌝ }
+    ensures { λ r. let text = figuresOf blank (columnOf first rows (now (numbers .entry)) column) in
+        ⌜ (r ≡ at + length text) × (now (out .exit) ≡ written at text (now (out .entry))) ⌝ }
 {
     let mut next = at;
     let mut row = 0;
     while row < rows {
-        next = put_figure(numbers[48 * (first + row) + column], out, next);
+        next = put_figure(numbers[ROW_WORDS * (first + row) + column], b' ', out, next);
         row += 1;
     }
     next
@@ -73,11 +69,13 @@ fn put_long_line(
     out: &mut [u8],
     at: usize,
 ) -> usize
-    requires { ⌜ (first + rows ≤ 10) × (rows ≤ 6) × (column < 48) × (at + 149 ≤ length (now out)) ⌝ }
-    ensures { λ r. ⌜ (r ≡ at + length (longLine letter first rows (now (numbers .entry)) column)) × (now (out .exit) ≡ written at (longLine letter first rows (now (numbers .entry)) column) (now (out .entry))) ⌝ }
+    requires { ⌜ (first + rows ≤ postingRows) × (rows ≤ intertieRows) × (column < mostInterties)
+        × (at + longBytes ≤ length (now out)) ⌝ }
+    ensures { λ r. let text = columnLine letter first rows (now (numbers .entry)) column in
+        ⌜ (r ≡ at + length text) × (now (out .exit) ≡ written at text (now (out .entry))) ⌝ }
 {
     let number_at = put(letter, out, at);
-    let figures_at = put_figure(column as u64, out, number_at);
+    let figures_at = put_figure(column as u64, b' ', out, number_at);
     let end = put_column(numbers, first, rows, column, out, figures_at);
     put(b'\n', out, end)
 }
@@ -92,8 +90,10 @@ fn put_lines(
     out: &mut [u8],
     at: usize,
 ) -> usize
-    requires { ⌜ (first + rows ≤ 10) × (rows ≤ 6) × (count ≤ 48) × (at + 149 * count ≤ length (now out)) ⌝ }
-    ensures { λ r. ⌜ (r ≡ at + length (each count (longLine letter first rows (now (numbers .entry))))) × (now (out .exit) ≡ written at (each count (longLine letter first rows (now (numbers .entry)))) (now (out .entry))) ⌝ }
+    requires { ⌜ (first + rows ≤ postingRows) × (rows ≤ intertieRows) × (count ≤ mostInterties)
+        × (at + longBytes * count ≤ length (now out)) ⌝ }
+    ensures { λ r. let text = each count (columnLine letter first rows (now (numbers .entry))) in
+        ⌜ (r ≡ at + length text) × (now (out .exit) ≡ written at text (now (out .entry))) ⌝ }
 {
     let mut next = at;
     let mut column = 0;
@@ -112,17 +112,35 @@ fn put_posting(
     holders: usize,
     out: &mut [u8],
 ) -> usize
-    requires { ⌜ (interties ≤ 48) × (holders ≤ 32) × (length (now out) ≡ 12069) ⌝ }
-    ensures { λ r. ⌜ (r ≡ length (postingText interties holders total (now (numbers .entry)))) × (now (out .exit) ≡ written 0 (postingText interties holders total (now (numbers .entry))) (now (out .entry))) × (r ≤ 12069) ⌝ }
+    requires { ⌜ (interties ≤ mostInterties) × (holders ≤ mostHolders) × (length (now out) ≡ textBytes) ⌝ }
+    ensures { λ r. let text = linesText interties holders total (now (numbers .entry)) in
+        ⌜ (r ≡ length text) × (now (out .exit) ≡ written 0 text (now (out .entry))) × (r ≤ textBytes) ⌝ }
 {
     let interties_at = put_short_line(b'T', total, out, 0);
-    let holders_at = put_lines(b'I', numbers, 0, 6, interties, out, interties_at);
-    put_lines(b'H', numbers, 6, 4, holders, out, holders_at)
+    let holders_at = put_lines(
+        b'I',
+        numbers,
+        rows::LIMIT,
+        rows::INTERTIE_ROWS,
+        interties,
+        out,
+        interties_at,
+    );
+    put_lines(
+        b'H',
+        numbers,
+        rows::LOAD_SHARE,
+        rows::HOLDER_ROWS,
+        holders,
+        out,
+        holders_at,
+    )
 }
 
 // Writes what `post` prints of a sheet, and answers how many bytes it is.
 pub fn posting_text(sheet: &[u8], out: &mut [u8; TEXT_BYTES]) -> usize
-    ensures { λ r. ⌜ (r ≡ length (textOf (now (sheet .entry)))) × (now (out .exit) ≡ written 0 (textOf (now (sheet .entry))) (now (out .entry))) × Counts r (now (out .exit)) ⌝ }
+    ensures { λ r. let text = textOf (now (sheet .entry)) in
+        ⌜ (r ≡ length text) × (now (out .exit) ≡ written 0 text (now (out .entry))) × Counts r (now (out .exit)) ⌝ }
 {
     let mut numbers = [0u64; NUMBERS];
     let answer = posting::post(sheet, &mut numbers);

@@ -1,4 +1,4 @@
-// Same: whether two sheets open to the same year (document 01, "Beside the year").
+// Same: whether two sheets open to the same year (docs/RULES.md, "Beside the year").
 use base::limits::STATE_WORDS;
 ghost use mathlib.Core.Path.{_≡_};
 ghost use Prim.Native.Nat.{ℕ, _<_};
@@ -17,6 +17,7 @@ pub struct Verdict {
     pub passes: u64,
 }
 
+// The verdict on a sheet that is refused.
 fn refused(number: u32) -> Verdict
     ensures { λ r. ⌜ r ≡ refusedVerdict number ⌝ }
 {
@@ -28,6 +29,7 @@ fn refused(number: u32) -> Verdict
     }
 }
 
+// The verdict on two sheets that stand.
 fn decided(same: bool) -> Verdict
     ensures { λ r. ⌜ r ≡ verdict same ⌝ }
 {
@@ -42,7 +44,8 @@ fn decided(same: bool) -> Verdict
 // Whether two lists have the same words.
 fn equal_words(first: &[u32], second: &[u32]) -> bool
     requires { ⌜ length (now second) ≡ length (now first) ⌝ }
-    ensures { λ r. ⌜ r ≡ allTo (length (now (first .entry))) (λ (p : ℕ). eqb (at (now (first .entry)) p) (at (now (second .entry)) p)) ⌝ }
+    ensures { λ r. let n = length (now (first .entry)) in
+        ⌜ r ≡ allTo n (λ (p : ℕ). eqb (at (now (first .entry)) p) (at (now (second .entry)) p)) ⌝ }
 {
     let mut p = 0;
     while p < first.len() {

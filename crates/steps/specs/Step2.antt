@@ -1,4 +1,4 @@
--- Step 2: available import capability, and each holder's Load Share Quantity.
+-- Step 2: available import capability, and each holder's Load Share Quantity (docs/RULES.md, "Opening").
 use Prim.Native.Nat.{ℕ, _-_, _*_, _/_}
 use Rattle.base.specs.Sums.{sumTo}
 use Rattle.steps.specs.Inputs.{Inputs}

@@ -1,4 +1,4 @@
--- Steps 3 and 4a: existing contracts, never cut, and the Pre-RA commitments above them.
+-- Steps 3 and 4a: existing contracts, never cut, and the Pre-RA commitments above them (docs/RULES.md, "Opening").
 use Prim.Native.Nat.{ℕ, _-_}
 use Rattle.base.specs.Sums.{sumTo}
 use Rattle.base.specs.Words.{at}

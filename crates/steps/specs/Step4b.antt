@@ -1,10 +1,12 @@
--- Step 4b: the New Use commitments, by rising rank, within the holder's allowance.
+-- Step 4b: the New Use commitments, by rising rank, within the holder's allowance (docs/RULES.md, "Opening").
 use Prim.Native.Nat.{ℕ, _+_, _-_}
 use mathlib.Core.List.{List}
+use Rattle.base.specs.Limits.{mostInterties}
 use Rattle.base.specs.Sums.{sumTo}
 use Rattle.base.specs.Words.{at, tab}
 use Rattle.share_out.specs.Rule.{Outcome}
 use Rattle.intertie_shares.specs.Rule.{amongHolders}
+use Rattle.sheet_records.specs.Key.{keyRanks}
 use Rattle.step_4b.specs.NewUse.{NewUse, newUse}
 use Rattle.steps.specs.Inputs.{Inputs}
 use Rattle.steps.specs.Step2.{loadShareQuantity}
@@ -15,13 +17,13 @@ module _ (y : Inputs) where
   unfoldable pub allowance : ℕ → ℕ
   allowance h = loadShareQuantity y h - sumTo (y .interties) (λ i. y .existing h i + preRaGranted y h i)
 
-  -- what the holder's E on each of 48 interties exceeds its Pre-RA kW there
+  -- what the holder's E on each intertie exceeds its Pre-RA kW there
   unfoldable pub cover : ℕ → List ℕ
-  cover h = tab 48 (λ i. y .existing h i - y .preRa h i)
+  cover h = tab mostInterties (λ i. y .existing h i - y .preRa h i)
 
   -- the holder's records by rising rank, each covered first and then cut to the allowance left
   unfoldable pub newUseKept : ℕ → NewUse
-  newUseKept h = newUse (tab 256 (y .newUseKw h)) (tab 256 (y .newUseIntertie h)) (allowance h) (cover h) 48
+  newUseKept h = newUse (tab keyRanks (y .newUseKw h)) (tab keyRanks (y .newUseIntertie h)) (allowance h) (cover h) mostInterties
 
   -- what stays, summed per pair, is the claim
   unfoldable pub newUseClaim : ℕ → ℕ → ℕ

@@ -1,4 +1,4 @@
--- Steps 5 to 7: what each holder holds, its Step 5 share and its Step 7 total, and what stays unassigned.
+-- Steps 5 to 7: what each holder holds, its Step 5 share and its Step 7 total, and what stays unassigned (docs/RULES.md, "Opening").
 use Prim.Native.Nat.{ℕ, _+_, _-_}
 use Rattle.base.specs.Sums.{sumTo}
 use Rattle.base.specs.Words.{at, tab}

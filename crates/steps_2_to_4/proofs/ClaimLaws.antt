@@ -18,8 +18,10 @@ use Rattle.intertie_shares.specs.Pairs.{atPair}
 use Rattle.intertie_shares.specs.Rule.{shareOutEach}
 use Rattle.intertie_shares.proofs.OutcomeLaws.{each-done}
 use Rattle.intertie_shares.proofs.Promise.{over-same}
-use Rattle.steps_2_to_4.specs.Vectors.{pairAt, Pairs, keptFrom, SharedOver}
-use Rattle.steps_2_to_4.proofs.PartLaws.{at-mid, part-row}
+use Rattle.intertie_shares.specs.Pairs.{pairAt}
+use Rattle.steps_2_to_4.specs.Workers.Vectors.{Pairs, keptFrom, SharedOver}
+use Rattle.base.proofs.VectorLaws.{at-mid}
+use Rattle.steps_2_to_4.proofs.PartLaws.{part-row}
 
 -- a part is the table of its words
 pub mid-tab : (a e n : ℕ) (l : List ℕ) → e ≤ length l → e - a ≡ n → midOf a (e - a) l ≡ tab n (λ c. at l (a + c))

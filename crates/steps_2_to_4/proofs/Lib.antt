@@ -1,4 +1,3 @@
-pub mod VectorLaws
 pub mod PartLaws
 pub mod ClaimLaws
 pub mod ReserveLaws

@@ -1,31 +1,18 @@
 -- A table of the pairs whose rows are written one by one, each lent as a part.
 use Prim.Native.Nat.{ℕ, _+_, _-_, _*_, _≤_, _<_, zero-le}
 use mathlib.Core.Path.{_≡_, refl, sym, ap, _∙_}
-use mathlib.Core.List.{List, _++_}
+use mathlib.Core.List.{List}
 use mathlib.Core.Logic.{⊎-elim}
 use native.Mathlib.Numerals.{add-one}
 use native.Mathlib.Omega.{arith}
-use lib.ListN.{length, take, drop, List·getD-append}
-use lib.Seq.{getD-append-add, getD-take, getD-drop, length-take-le}
+use lib.ListN.{length}
 use borrow.Rule.Slice.PartMut.{midOf, putMid, same-len-mid, mid-len}
 use Rattle.base.specs.Words.{at, tab}
 use Rattle.base.proofs.SumLaws.{below-suc}
 use Rattle.base.proofs.WordLaws.{at-tab}
-use Rattle.steps_2_to_4.specs.Vectors.{pairAt, Pairs}
-
--- a word of the part that came back
-pub at-part : (a k : ℕ) (l part : List ℕ) (c : ℕ) → a ≤ length l → c < length part → at (putMid a k l part) (a + c) ≡ at part c
-at-part a k l part c inside b =
-    let front : length (take a l) ≡ a = length-take-le a l inside in
-    ap (λ n. at (putMid a k l part) (n + c)) (sym front)
-    ∙ getD-append-add (take a l) (part ++ _) c 0
-    ∙ List·getD-append part _ 0 c b
-
--- a word before it
-pub at-before-part : (a k : ℕ) (l part : List ℕ) (j : ℕ) → a ≤ length l → j < a → at (putMid a k l part) j ≡ at l j
-at-before-part a k l part j inside b =
-    let front : length (take a l) ≡ a = length-take-le a l inside in
-    List·getD-append (take a l) (part ++ _) 0 j (omega arith) ∙ getD-take a l j 0 b
+use Rattle.base.proofs.VectorLaws.{at-part, at-before-part, at-mid}
+use Rattle.intertie_shares.specs.Pairs.{pairAt}
+use Rattle.steps_2_to_4.specs.Workers.Vectors.{Pairs}
 
 -- after m holders: the rows of the table are those of f
 pub record Rows (f : ℕ → ℕ → ℕ) (holders : ℕ) (first table : List ℕ) (m : ℕ) : Type 0 where
@@ -55,10 +42,6 @@ module _ (f : ℕ → ℕ → ℕ) (holders : ℕ) (first : List ℕ) where
             at-before-part a (e - a) table part (pairAt h i) inside (omega arith) ∙ s .filled h i before b)
             (below-suc (rw (add-one m) at k));
       }
-
--- a word of a part that is read
-pub at-mid : (a k : ℕ) (l : List ℕ) (c : ℕ) → c < k → at (midOf a k l) c ≡ at l (a + c)
-at-mid a k l c b = getD-take k (drop a l) c 0 b ∙ getD-drop a l c 0
 
 -- a row of differences between two parts of a list
 pub part-row : (l last : List ℕ) (a b j k n : ℕ) → last ≡ tab n (λ c. at (midOf a j l) c - at (midOf b k l) c) → n ≡ 48 → 48 ≤ j → 48 ≤ k →

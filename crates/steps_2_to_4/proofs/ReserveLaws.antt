@@ -22,8 +22,9 @@ use Rattle.steps.specs.Step4a.{existingOn, leftByStep3, preRaClaim, preRaShared
 use Rattle.steps.specs.Step4b.{allowance, cover, newUseKept, newUseClaim, newUseShared, newUseGranted}
 use Rattle.steps.specs.Step5to7.{unassigned}
 use Rattle.steps.proofs.BoundLaws.{reserved-parts}
-use Rattle.steps_2_to_4.specs.Vectors.{pairAt, Row, Pairs, keptFrom, SharedOver}
-use Rattle.steps_2_to_4.proofs.VectorLaws.{lowered, at-lowered}
+use Rattle.intertie_shares.specs.Pairs.{pairAt}
+use Rattle.steps_2_to_4.specs.Workers.Vectors.{Row, Pairs, keptFrom, SharedOver}
+use Rattle.base.proofs.VectorLaws.{lowered, at-lowered}
 
 module _ (kw ties pools loads quantities : List ℕ) (few : length pools ≤ 48) (small : length loads ≤ 32)
     (start : Row (length pools) pools (available (ofTables (length pools) (length loads) kw ties)))

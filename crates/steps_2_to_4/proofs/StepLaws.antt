@@ -1,5 +1,5 @@
 -- Step 2 as the code finds it, and what each step hands to the next.
-use Prim.Native.Nat.{ℕ, _+_, _-_, _*_, _/_, _≤_, _<_}
+use Prim.Native.Nat.{ℕ, _+_, _-_, _*_, _/_, _%_, _^_, _≤_, _<_}
 use mathlib.Core.Path.{_≡_, refl, sym, ap, _∙_}
 use mathlib.Core.Bool.{Bool, true, false, _&&_, _||_, true≢false}
 use mathlib.Core.List.{List, _++_}
@@ -15,7 +15,8 @@ use Rattle.base.specs.Words.{at, tab, fill}
 use Rattle.base.specs.Choice.{pick}
 use Rattle.base.proofs.ChoiceLaws.{pick-by, pick-true, pick-false, and-left, and-right, and-both, or-left, or-right}
 use Rattle.base.proofs.SumLaws.{sumTo-same, sumTo-bound, allTo-each, allTo-all, allTo-same}
-use Rattle.base.proofs.WordLaws.{at-tab, length-tab, tab-same, fill-front, fill-same}
+use Rattle.base.proofs.WordLaws.{at-tab, length-tab, tab-same, tab-at, fill-front, fill-same}
+use Rattle.base.proofs.VectorLaws.{at-mid, sum-whole}
 use Rattle.intertie_shares.specs.Pairs.{fillTable}
 use Rattle.sheet_reading.specs.Tables.{limitSlot, outsideSlot, loadShareSlot}
 use Rattle.steps.specs.Inputs.{Inputs}
@@ -24,47 +25,45 @@ use Rattle.steps.specs.Step2.{available, availableTotal, allLoadShares, loadSha
 use Rattle.steps.specs.Step4a.{preRaGranted}
 use Rattle.steps.specs.Step4b.{newUseGranted}
 use Rattle.steps.specs.Step5to7.{unassigned}
-use Rattle.steps_2_to_4.specs.Vectors.{Row}
-use Rattle.steps_2_to_4.specs.Step2.{Step2Given, Step2Taken}
-use Rattle.steps_2_to_4.specs.Reserve.{Reserving, Reserved}
-use Rattle.steps_2_to_4.specs.Steps.{RowsGiven, RowsTaken, TablesGiven, TablesTaken}
+use Rattle.steps_2_to_4.specs.Workers.Vectors.{Row}
+use Rattle.steps_2_to_4.specs.Workers.Step2.{Step2Given, Step2Taken}
+use Rattle.steps_2_to_4.specs.Workers.Reserve.{Reserving, Reserved}
+use Rattle.steps_2_to_4.specs.Workers.Steps.{RowsGiven, RowsTaken, TablesGiven, TablesTaken}
 use Rattle.steps_2_to_4.specs.Reserved.{Outcome, fitTables, reserved}
-use Rattle.steps_2_to_4.proofs.PartLaws.{at-mid}
 
 -- Step 2
 module _ (kw loads pools₀ quantities₀ : List ℕ) (g : Step2Given kw loads pools₀ quantities₀) where
-  pub load-most : (h : ℕ) → h < length loads → at loads (0 + h) ≤ 100000000
-  load-most h l = omega (arith, ap (at loads) (zero-add h), g .load-shares h l)
-
   module _ (pools : List ℕ) (k : ℕ) (pool : pools ≡ tab (length pools₀) (λ c. at kw c - at (midOf 64 k kw) c)) (long : k ≡ length kw - 64) where
     pools-are : pools ≡ tab (length pools₀) (λ i. at kw (limitSlot i) - at kw (outsideSlot i))
     pools-are = pool ∙ tab-same (length pools₀) _ _ (λ i l. ap (λ x. at kw i - x) (at-mid 64 k kw i (omega (arith, g .few, g .kw-size))))
 
-    at-pool : (i : ℕ) → i < length pools₀ → at pools (0 + i) ≡ at kw (limitSlot i) - at kw (outsideSlot i)
-    at-pool i l = ap (at pools) (zero-add i) ∙ ap (λ m. at m i) pools-are ∙ at-tab (length pools₀) (λ i. at kw (limitSlot i) - at kw (outsideSlot i)) i l
+    -- what is available together
+    pool-sum : sumTo (length pools) (at pools) ≡ sumTo (length pools₀) (λ i. at kw (limitSlot i) - at kw (outsideSlot i))
+    pool-sum =
+        ap (λ n. sumTo n (at pools)) (ap length pools-are ∙ length-tab (length pools₀) _)
+        ∙ sumTo-same (length pools₀) (at pools) _
+        (λ i l. ap (λ m. at m i) pools-are ∙ at-tab (length pools₀) (λ i. at kw (limitSlot i) - at kw (outsideSlot i)) i l)
 
-    pub pool-most : (i : ℕ) → i < length pools → at pools (0 + i) ≤ 100000000
-    pool-most i l =
-        let here : i < length pools₀ = omega (arith, ap length pools-are, length-tab (length pools₀) (λ i. at kw (limitSlot i) - at kw (outsideSlot i))) in
-        omega (arith, at-pool i here, g .limits i here)
+    pool-small : sumTo (length pools) (at pools) ≤ 960000000
+    pool-small =
+        omega (
+          arith,
+          pool-sum,
+          g .few,
+          sumTo-bound (length pools₀) 20000000 (λ i. at kw (limitSlot i) - at kw (outsideSlot i)) (λ i l. omega (arith, g .limits i l)),
+        )
 
-    module _ (total all : ℕ) (sum : total ≡ sumTo (length pools) (λ c. at pools (0 + c))) (loaded : all ≡ sumTo (length loads) (λ c. at loads (0 + c))) where
+    module _ (total all : ℕ) (sum : total ≡ sumTo (length pools) (at pools) % 2 ^ 64) (loaded : all ≡ sumTo (length loads) (at loads) % 2 ^ 64) where
       total-is : total ≡ sumTo (length pools₀) (λ i. at kw (limitSlot i) - at kw (outsideSlot i))
-      total-is =
-          sum ∙ ap (λ n. sumTo n (λ c. at pools (0 + c))) (ap length pools-are ∙ length-tab (length pools₀) _)
-          ∙ sumTo-same (length pools₀) (λ c. at pools (0 + c)) _ at-pool
+      total-is = sum-whole total (length pools) (at pools) sum (omega (arith, pool-small)) ∙ pool-sum
 
       all-is : all ≡ sumTo (length loads) (at loads)
-      all-is = loaded ∙ sumTo-same (length loads) (λ c. at loads (0 + c)) (at loads) (λ h l. ap (at loads) (zero-add h))
+      all-is =
+          sum-whole all (length loads) (at loads) loaded
+          (omega (arith, g .small, sumTo-bound (length loads) 100000000 (at loads) (g .load-shares)))
 
       pub total-small : total ≤ 960000000
-      total-small =
-          omega (
-            arith,
-            total-is,
-            g .few,
-            sumTo-bound (length pools₀) 20000000 (λ i. at kw (limitSlot i) - at kw (outsideSlot i)) (λ i l. omega (arith, g .limits i l)),
-          )
+      total-small = omega (arith, total-is, pool-sum, pool-small)
 
       pub step-2-taken : (quantities : List ℕ) → quantities ≡ tab (length quantities₀) (λ h. total * at loads h / all) →
           Step2Taken kw loads (length pools₀) pools quantities total
@@ -132,10 +131,13 @@ module _ (kw ties loads pools₀ quantities₀ preRa newUse : List ℕ) (g : Row
         }
 
     pub rows-taken : (left granted kept : List ℕ) → Reserved kw ties loads pools preRa newUse left granted kept →
-        RowsTaken kw ties (length pools₀) (length loads) preRa newUse left granted kept total
+        RowsTaken kw ties (length pools₀) (length loads) preRa newUse left quantities granted kept total
     rows-taken left granted kept r =
         record {
           sum = sum-is;
+          quantity =
+              sym (tab-at quantities) ∙ ap (λ n. tab n (at quantities)) quantities-size
+              ∙ tab-same (length loads) (at quantities) (loadShareQuantity y) quantity;
           remains = rw pools-size at (r .remains);
           granted = rw pools-size at (r .granted);
           kept = rw pools-size at (r .kept);
@@ -149,17 +151,17 @@ front-filled n f first row e room =
     ∙ fill-same n (at first) f row (λ i l. ap (λ m. at m i) e ∙ at-tab n f i l)
 
 -- the rows that are lent
-module _ (kw ties : List ℕ) (I H : ℕ) (left preRa newUse : List ℕ) (g : TablesGiven kw ties I H left preRa newUse) where
+module _ (kw ties : List ℕ) (I H : ℕ) (quantities left preRa newUse : List ℕ) (g : TablesGiven kw ties I H quantities left preRa newUse) where
   pub loads-size : length (midOf 128 (128 + H - 128) kw) ≡ H
   loads-size = mid-len 128 (128 + H) kw (omega (arith, g .small, g .kw-size)) ∙ (omega arith)
 
   pub left-front : length (take I left) ≡ I
   left-front = length-take-le I left (omega (arith, g .few, g .left-size))
 
-  pub quantities-front : length {A = ℕ} (take H (replicate 32 0)) ≡ H
-  quantities-front = length-take-le H (replicate 32 0) (omega (arith, g .small, length-replicate {A = ℕ} 32 0))
+  pub quantities-front : length (take H quantities) ≡ H
+  quantities-front = length-take-le H quantities (omega (arith, g .small, g .quantities-size))
 
-  pub rows-given : RowsGiven kw ties (midOf 128 (128 + H - 128) kw) (take I left) (take H (replicate 32 0)) preRa newUse
+  pub rows-given : RowsGiven kw ties (midOf 128 (128 + H - 128) kw) (take I left) (take H quantities) preRa newUse
   rows-given =
       record {
         few = omega (arith, left-front, g .few);
@@ -174,13 +176,14 @@ module _ (kw ties : List ℕ) (I H : ℕ) (left preRa newUse : List ℕ) (g : Ta
         weigh = λ h l. at-mid 128 (128 + H - 128) kw h (omega (arith, loads-size));
       }
 
-  pub tables-taken : (first granted kept : List ℕ) (total : ℕ) →
-      RowsTaken kw ties (length (take I left)) (length (midOf 128 (128 + H - 128) kw)) preRa newUse first granted kept total →
-      TablesTaken kw ties I H left preRa newUse (first ++ drop I left) granted kept total
-  tables-taken first granted kept total r =
-      let t : RowsTaken kw ties I H preRa newUse first granted kept total = rw (left-front, loads-size) at r in
+  pub tables-taken : (first found granted kept : List ℕ) (total : ℕ) →
+      RowsTaken kw ties (length (take I left)) (length (midOf 128 (128 + H - 128) kw)) preRa newUse first found granted kept total →
+      TablesTaken kw ties I H quantities left preRa newUse (found ++ drop H quantities) (first ++ drop I left) granted kept total
+  tables-taken first found granted kept total r =
+      let t : RowsTaken kw ties I H preRa newUse first found granted kept total = rw (left-front, loads-size) at r in
       record {
         sum = t .sum;
+        quantity = front-filled H _ found quantities (t .quantity) (omega (arith, g .small, g .quantities-size));
         remains = front-filled I _ first left (t .remains) (omega (arith, g .few, g .left-size));
         granted = t .granted;
         kept = t .kept;
@@ -240,13 +243,15 @@ module _ (kw : List ℕ) (I H : ℕ) where
       rw (a, b, same) (sym (pick-false _ _ _ f))
 
 -- the call by cases: nothing written, or Steps 2 to 4b
-module _ (kw ties : List ℕ) (I H : ℕ) (left preRa newUse : List ℕ) where
-  pub reserved-not : fitTables kw I H ≡ false → reserved kw ties I H left preRa newUse ≡ record { total = 0; left = left; preRa = preRa; newUse = newUse }
+module _ (kw ties : List ℕ) (I H : ℕ) (quantities left preRa newUse : List ℕ) where
+  pub reserved-not : fitTables kw I H ≡ false →
+      reserved kw ties I H quantities left preRa newUse ≡ record { total = 0; quantities = quantities; left = left; preRa = preRa; newUse = newUse }
   unfolding reserved
   reserved-not e = pick-false _ _ _ e
 
-  pub reserved-is : fitTables kw I H ≡ true → reserved kw ties I H left preRa newUse ≡ record {
+  pub reserved-is : fitTables kw I H ≡ true → reserved kw ties I H quantities left preRa newUse ≡ record {
     total = availableTotal (ofTables I H kw ties);
+    quantities = fill H (loadShareQuantity (ofTables I H kw ties)) quantities;
     left = fill I (unassigned (ofTables I H kw ties)) left;
     preRa = fillTable I H (preRaGranted (ofTables I H kw ties)) preRa;
     newUse = fillTable I H (newUseGranted (ofTables I H kw ties)) newUse;
@@ -254,7 +259,7 @@ module _ (kw ties : List ℕ) (I H : ℕ) (left preRa newUse : List ℕ) where
   unfolding reserved
   reserved-is e = pick-true _ _ _ e
 
-  pub reserved-done : (after granted kept : List ℕ) (total : ℕ) → fitTables kw I H ≡ true →
-      TablesTaken kw ties I H left preRa newUse after granted kept total →
-      record { total = total; left = after; preRa = granted; newUse = kept } ≡ reserved kw ties I H left preRa newUse
-  reserved-done after granted kept total e t = rw (t .sum, t .remains, t .granted, t .kept) (sym (reserved-is e))
+  pub reserved-done : (found after granted kept : List ℕ) (total : ℕ) → fitTables kw I H ≡ true →
+      TablesTaken kw ties I H quantities left preRa newUse found after granted kept total →
+      record { total = total; quantities = found; left = after; preRa = granted; newUse = kept } ≡ reserved kw ties I H quantities left preRa newUse
+  reserved-done found after granted kept total e t = rw (t .sum, t .quantity, t .remains, t .granted, t .kept) (sym (reserved-is e))

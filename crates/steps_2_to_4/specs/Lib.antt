@@ -1,5 +1,2 @@
-pub mod Vectors
-pub mod Step2
-pub mod Reserve
-pub mod Steps
 pub mod Reserved
+pub mod Workers

@@ -1,26 +1,32 @@
-// The claims of Steps 4a and 4b, a table of the pairs with a row of 48 words for each holder.
+// The claims of Steps 4a and 4b, a table of the pairs with a row of the interties for each holder.
 use super::vectors;
+use base::limits::MOST_INTERTIES;
+use base::vectors::left_of;
 use sheet_reading::tables::EXISTING;
+use sheet_reading::tables::HOLDER_INTERTIES;
+use sheet_reading::tables::HOLDER_RANKS;
 use sheet_reading::tables::NEW_USE;
 use sheet_reading::tables::PRE_RA;
 ghost use mathlib.Core.Path.{_≡_};
 ghost use Prim.Native.Nat.{ℕ, _+_, _-_, _*_, _≤_, _<_};
 ghost use lib.ListN.{length};
+ghost use Rattle.base.specs.Limits.{mostInterties, mostHolders, mostPairs};
 ghost use Rattle.base.specs.Words.{at};
-ghost use Rattle.sheet_reading.specs.Tables.{existingSlot, preRaSlot};
-ghost use Rattle.steps_2_to_4.specs.Vectors.{Pairs, keptFrom};
+ghost use Rattle.sheet_reading.specs.Tables.{slots, existingSlot, preRaSlot};
+ghost use Rattle.steps_2_to_4.specs.Workers.Vectors.{Pairs, keptFrom};
 
 // Step 4a: a claim is the part of Pre-RA kW above E at that pair.
 pub(super) fn pre_ra_claims(kw: &[u64], holders: usize, claims: &mut [u64])
-    requires { ⌜ (holders ≤ 32) × (length (now kw) ≡ 12481) × (length (now claims) ≡ 1536) ⌝ }
-    ensures { λ _. ⌜ Pairs holders 48 (now (claims .exit)) (λ (h i : ℕ). at (now (kw .entry)) (preRaSlot h i) - at (now (kw .entry)) (existingSlot h i)) ⌝ }
+    requires { ⌜ (holders ≤ mostHolders) × (length (now kw) ≡ slots) × (length (now claims) ≡ mostPairs) ⌝ }
+    ensures { λ _. ⌜ Pairs holders mostInterties (now (claims .exit))
+        (λ (h i : ℕ). at (now (kw .entry)) (preRaSlot h i) - at (now (kw .entry)) (existingSlot h i)) ⌝ }
 {
     let mut holder = 0;
     while holder < holders {
-        let row = 48 * holder;
-        let end = row + 48;
-        let pre_ra = PRE_RA + 64 * holder;
-        let existing = EXISTING + 64 * holder;
+        let row = MOST_INTERTIES * holder;
+        let end = row + MOST_INTERTIES;
+        let pre_ra = PRE_RA + HOLDER_INTERTIES * holder;
+        let existing = EXISTING + HOLDER_INTERTIES * holder;
         vectors::differences(&kw[pre_ra..], &kw[existing..], &mut claims[row..end]);
         holder += 1;
     }
@@ -36,17 +42,22 @@ fn holder_claims(
     granted: &[u64],
     row: &mut [u64],
 )
-    requires { ⌜ (holder < 32) × (interties ≤ 48) × (length (now kw) ≡ 12481) × (length (now ties) ≡ 12481) × (length (now granted) ≡ 1536) × (length (now row) ≡ 48) ⌝ }
-    ensures { λ _. ⌜ now (row .exit) ≡ keptFrom (now (kw .entry)) (now (ties .entry)) interties quantity (now (granted .entry)) holder .kept ⌝ }
+    requires { ⌜ (holder < mostHolders) × (interties ≤ mostInterties) × (length (now kw) ≡ slots) × (length (now ties) ≡ slots)
+        × (length (now granted) ≡ mostPairs) × (length (now row) ≡ mostInterties) ⌝ }
+    ensures { λ _. ⌜ now (row .exit)
+        ≡ keptFrom (now (kw .entry)) (now (ties .entry)) interties quantity (now (granted .entry)) holder .kept ⌝ }
 {
-    let existing = EXISTING + 64 * holder;
-    let pre_ra = PRE_RA + 64 * holder;
-    let first = NEW_USE + 256 * holder;
-    let end = first + 256;
-    let mut cover = [0u64; 48];
+    let existing = EXISTING + HOLDER_INTERTIES * holder;
+    let pre_ra = PRE_RA + HOLDER_INTERTIES * holder;
+    let first = NEW_USE + HOLDER_RANKS * holder;
+    let end = first + HOLDER_RANKS;
+    let mut cover = [0u64; MOST_INTERTIES];
     vectors::differences(&kw[existing..], &kw[pre_ra..], &mut cover);
-    let beyond = vectors::left_of(quantity, kw, existing, interties);
-    let allowance = vectors::left_of(beyond, granted, 48 * holder, interties);
+    let existing_end = existing + interties;
+    let beyond = left_of(quantity, &kw[existing..existing_end]);
+    let granted_at = MOST_INTERTIES * holder;
+    let granted_end = granted_at + interties;
+    let allowance = left_of(beyond, &granted[granted_at..granted_end]);
     step_4b::keep_new_use(
         &kw[first..end],
         &ties[first..end],
@@ -65,14 +76,16 @@ pub(super) fn new_use_claims(
     granted: &[u64],
     claims: &mut [u64],
 )
-    requires { ⌜ (length (now quantities) ≤ 32) × (interties ≤ 48) × (length (now kw) ≡ 12481) × (length (now ties) ≡ 12481) × (length (now granted) ≡ 1536) × (length (now claims) ≡ 1536) ⌝ }
-    ensures { λ _. ⌜ Pairs (length (now (quantities .entry))) 48 (now (claims .exit))
-        (λ (h i : ℕ). at (keptFrom (now (kw .entry)) (now (ties .entry)) interties (at (now (quantities .entry)) h) (now (granted .entry)) h .kept) i) ⌝ }
+    requires { ⌜ (length (now quantities) ≤ mostHolders) × (interties ≤ mostInterties) × (length (now kw) ≡ slots)
+        × (length (now ties) ≡ slots) × (length (now granted) ≡ mostPairs) × (length (now claims) ≡ mostPairs) ⌝ }
+    ensures { λ _. ⌜ Pairs (length (now (quantities .entry))) mostInterties (now (claims .exit))
+        (λ (h i : ℕ). at (keptFrom (now (kw .entry)) (now (ties .entry)) interties
+        (at (now (quantities .entry)) h) (now (granted .entry)) h .kept) i) ⌝ }
 {
     let mut holder = 0;
     while holder < quantities.len() {
-        let row = 48 * holder;
-        let end = row + 48;
+        let row = MOST_INTERTIES * holder;
+        let end = row + MOST_INTERTIES;
         let quantity = quantities[holder];
         holder_claims(
             kw,

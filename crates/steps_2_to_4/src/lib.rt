@@ -1,9 +1,15 @@
-// Steps 2 to 4b carried out on the tables of a sheet: P and N of every pair, and what stays unassigned.
+// Steps 2 to 4b carried out on the tables of a sheet: P and N of every pair, and what stays unassigned
+// (docs/RULES.md, "Opening").
 mod claims;
 mod granting;
 mod step_2;
 mod vectors;
 
+use base::limits::MOST_HOLDERS;
+use base::limits::MOST_INTERTIES;
+use base::limits::MOST_KW;
+use base::limits::MOST_LOAD_SHARE;
+use base::limits::MOST_PAIRS;
 use sheet_reading::tables::LOAD_SHARES;
 use sheet_reading::tables::SLOTS;
 ghost use mathlib.Core.Path.{_≡_};
@@ -12,16 +18,13 @@ ghost use lib.Dec.{leb};
 ghost use lib.ListN.{length};
 ghost use Rattle.base.specs.Sums.{allTo};
 ghost use Rattle.base.specs.Words.{at};
-ghost use Rattle.steps_2_to_4.specs.Steps.{TablesGiven, TablesTaken, RowsGiven, RowsTaken};
+ghost use Rattle.sheet_reading.specs.Tables.{slots};
+ghost use Rattle.steps_2_to_4.specs.Workers.Steps.{TablesGiven, TablesTaken, RowsGiven, RowsTaken};
 ghost use Rattle.steps_2_to_4.specs.Reserved.{fitTables, reserved};
-
-const MOST_LIMIT_KW: u64 = 20_000_000;
-
-const MOST_LOAD_SHARE: u64 = 100_000_000;
 
 // Whether some numbers of a table, from one of them on, are all within a most.
 fn all_within(kw: &[u64; SLOTS], from: usize, count: usize, most: u64) -> bool
-    requires { ⌜ from + count ≤ 12481 ⌝ }
+    requires { ⌜ from + count ≤ slots ⌝ }
     ensures { λ r. ⌜ r ≡ allTo count (λ (c : ℕ). leb (at (now (kw .entry)) (from + c)) most) ⌝ }
 {
     let mut hold = true;
@@ -37,10 +40,10 @@ fn all_within(kw: &[u64; SLOTS], from: usize, count: usize, most: u64) -> bool
 fn fit_tables(kw: &[u64; SLOTS], interties: usize, holders: usize) -> bool
     ensures { λ r. ⌜ r ≡ fitTables (now (kw .entry)) interties holders ⌝ }
 {
-    if (48 < interties) | (32 < holders) {
+    if (MOST_INTERTIES < interties) | (MOST_HOLDERS < holders) {
         return false;
     }
-    let limits = all_within(kw, 0, interties, MOST_LIMIT_KW);
+    let limits = all_within(kw, 0, interties, MOST_KW);
     limits & all_within(kw, LOAD_SHARES, holders, MOST_LOAD_SHARE)
 }
 
@@ -55,27 +58,31 @@ fn steps_2_to_4(
     new_use: &mut [u64],
 ) -> u64
     requires { ⌜ RowsGiven (now kw) (now ties) (now loads) (now pools) (now quantities) (now «pre_ra») (now «new_use») ⌝ }
-    ensures { λ r. ⌜ RowsTaken (now (kw .entry)) (now (ties .entry)) (length (now (pools .entry))) (length (now (loads .entry))) (now («pre_ra» .entry)) (now («new_use» .entry)) (now (pools .exit)) (now («pre_ra» .exit)) (now («new_use» .exit)) r ⌝ }
+    ensures { λ r. ⌜ RowsTaken (now (kw .entry)) (now (ties .entry)) (length (now (pools .entry))) (length (now (loads .entry)))
+        (now («pre_ra» .entry)) (now («new_use» .entry))
+        (now (pools .exit)) (now (quantities .exit)) (now («pre_ra» .exit)) (now («new_use» .exit)) r ⌝ }
 {
     let total = step_2::step_2(kw, loads, pools, quantities);
-    granting::reserve(kw, ties, loads, quantities, pools, pre_ra, new_use);
+    granting::steps_3_and_4(kw, ties, loads, quantities, pools, pre_ra, new_use);
     total
 }
 
 // Lends the first numbers of the rows to Steps 2 to 4b; answers T.
-fn carry_out(
+fn lend_rows(
     kw: &[u64],
     ties: &[u16],
     interties: usize,
     holders: usize,
+    quantities: &mut [u64],
     pools: &mut [u64],
     pre_ra: &mut [u64],
     new_use: &mut [u64],
 ) -> u64
-    requires { ⌜ TablesGiven (now kw) (now ties) interties holders (now pools) (now «pre_ra») (now «new_use») ⌝ }
-    ensures { λ r. ⌜ TablesTaken (now (kw .entry)) (now (ties .entry)) interties holders (now (pools .entry)) (now («pre_ra» .entry)) (now («new_use» .entry)) (now (pools .exit)) (now («pre_ra» .exit)) (now («new_use» .exit)) r ⌝ }
+    requires { ⌜ TablesGiven (now kw) (now ties) interties holders (now quantities) (now pools) (now «pre_ra») (now «new_use») ⌝ }
+    ensures { λ r. ⌜ TablesTaken (now (kw .entry)) (now (ties .entry)) interties holders
+        (now (quantities .entry)) (now (pools .entry)) (now («pre_ra» .entry)) (now («new_use» .entry))
+        (now (quantities .exit)) (now (pools .exit)) (now («pre_ra» .exit)) (now («new_use» .exit)) r ⌝ }
 {
-    let mut quantities = [0u64; 32];
     let end = LOAD_SHARES + holders;
     steps_2_to_4(
         kw,
@@ -88,23 +95,40 @@ fn carry_out(
     )
 }
 
-// Carries out Steps 2 to 4b on the tables of a sheet: writes P and N of every pair and what stays
-// unassigned on each intertie, over the first words of the tables and the row; answers T. Answers 0 and
-// writes nothing where there are over 48 interties or over 32 holders, or a limit is above 20,000,000 or
-// a load share above 100,000,000.
+// Reserves: carries out Steps 2 to 4b on the tables of a sheet. Writes the Load Share Quantity of each holder, what
+// stays unassigned on each intertie, and P and N of every pair, over the first words of the rows and tables; answers
+// T. Answers 0 and writes nothing where a size, a limit or a load share is above its most.
 pub fn reserve(
     kw: &[u64; SLOTS],
     ties: &[u16; SLOTS],
     interties: usize,
     holders: usize,
-    unassigned: &mut [u64; 48],
-    pre_ra: &mut [u64; 1536],
-    new_use: &mut [u64; 1536],
+    quantities: &mut [u64; MOST_HOLDERS],
+    unassigned: &mut [u64; MOST_INTERTIES],
+    pre_ra: &mut [u64; MOST_PAIRS],
+    new_use: &mut [u64; MOST_PAIRS],
 ) -> u64
-    ensures { λ r. ⌜ record { total = r; left = now (unassigned .exit); preRa = now («pre_ra» .exit); newUse = now («new_use» .exit) } ≡ reserved (now (kw .entry)) (now (ties .entry)) interties holders (now (unassigned .entry)) (now («pre_ra» .entry)) (now («new_use» .entry)) ⌝ }
+    ensures { λ r. ⌜ record {
+      total = r;
+      quantities = now (quantities .exit);
+      left = now (unassigned .exit);
+      preRa = now («pre_ra» .exit);
+      newUse = now («new_use» .exit);
+    }
+        ≡ reserved (now (kw .entry)) (now (ties .entry)) interties holders
+        (now (quantities .entry)) (now (unassigned .entry)) (now («pre_ra» .entry)) (now («new_use» .entry)) ⌝ }
 {
     if !fit_tables(kw, interties, holders) {
         return 0;
     }
-    carry_out(kw, ties, interties, holders, unassigned, pre_ra, new_use)
+    lend_rows(
+        kw,
+        ties,
+        interties,
+        holders,
+        quantities,
+        unassigned,
+        pre_ra,
+        new_use,
+    )
 }

@@ -1,6 +1,6 @@
 // The library as C and Rust link it: every call under one prefix. A slice is a pointer and a count.
 use base::Answer;
-use posting::NUMBERS;
+use posting::rows::NUMBERS;
 use same::Verdict;
 ghost use mathlib.Core.Path.{_≡_};
 ghost use Rattle.share_out.specs.Rule.{shareOut};

@@ -2,7 +2,7 @@
 use Rattle.base.proofs.Prelude.{_≡_, ap, _∙_, arith, length, set, now, needs}
 use Rattle.state.specs.Layout.{lastDayAt}
 use Rattle.state_rows.specs.Rows.{fillRow}
-use Rattle.opened_state.specs.Write.{rowWords}
+use Rattle.opened_state.specs.Write.{rowLow}
 use Rattle.opened_state.proofs.StoreLaws.{stored-row}
 use Rattle.opened_state.proofs.write_stage.Statement.{statement}
 use Rattle.opened_state.proofs.write_stage.Tie as tie
@@ -25,7 +25,7 @@ returns c =
     let e2 = after-store2 .store2 .ensures ∙ ap (λ s. set s lastDayAt 0) (after-store .store .ensures) in
     let e3 = stored-row s2 s3 (now (a .unassigned)) 104 I (after-store-row .store-row .ensures) (omega (arith, p .long)) (omega arith) (p .few) (omega (arith, p .few)) in
     stored-row s3 _ (now (a .unplaced)) 105 H (after-store-row2 .store-row2 .ensures) (omega (arith, p .long)) (omega arith) (omega (arith, p .low)) (omega (arith, p .low))
-    ∙ ap (fillRow 105 H (rowWords (now (a .unplaced)))) (e3 ∙ ap (fillRow 104 I (rowWords (now (a .unassigned)))) e2)
+    ∙ ap (fillRow 105 H (rowLow (now (a .unplaced)))) (e3 ∙ ap (fillRow 104 I (rowLow (now (a .unassigned)))) e2)
 
 pub write-stage-spec : {M : Type 1} → statement M
 write-stage-spec =

@@ -1,7 +1,7 @@
 -- `fill_held` meets its contract: after h turns the first h holders have theirs.
 use Rattle.base.proofs.Prelude.{_-_, arith, length, now, needs}
-use Rattle.steps_2_to_4.proofs.VectorLaws.{Filling, filling-none, filling-next, filling-all}
-use Rattle.opening.specs.Figures.{heldFrom}
+use Rattle.base.proofs.VectorLaws.{Filling, filling-none, filling-next, filling-all}
+use Rattle.opening.specs.Workers.Figures.{heldFrom}
 use Rattle.opening.proofs.FigureLaws.{first-holders}
 use Rattle.opening.proofs.figures.fill_held.Statement.{statement}
 use Rattle.opening.proofs.figures.fill_held.Tie as tie

@@ -1,6 +1,6 @@
 -- `fill_totals` meets its contract: after h turns the first h holders have theirs.
 use Rattle.base.proofs.Prelude.{ℕ, _+_, _-_, refl, List, arith, length, now, needs, at}
-use Rattle.steps_2_to_4.proofs.VectorLaws.{Filling, filling-none, filling-next, filling-all}
+use Rattle.base.proofs.VectorLaws.{Filling, filling-none, filling-next, filling-all}
 use Rattle.opening.proofs.figures.fill_totals.Statement.{statement}
 use Rattle.opening.proofs.figures.fill_totals.Tie as tie
 

@@ -1,7 +1,7 @@
 -- `intertie_lines` meets its contract: its rows are written one after the other.
 use Rattle.base.proofs.Prelude.{ap, _∙_, now, needs}
 use Rattle.state_rows.specs.Rows.{fillRow}
-use Rattle.posting.specs.Fit.{rowWord, fieldOn}
+use Rattle.posting.specs.Workers.Lines.{rowWord, fieldOn}
 use Rattle.posting.proofs.lines.intertie_lines.Statement.{statement}
 use Rattle.posting.proofs.lines.intertie_lines.Tie as tie
 

@@ -1,7 +1,7 @@
 -- `new_use_claims` meets its contract: after m turns the rows of the first m holders are written.
 use Rattle.base.proofs.Prelude.{ℕ, _+_, _-_, _*_, _≡_, refl, ap, _∙_, List, arith, length, now, needs, at}
 use borrow.Rule.Slice.PartMut.{midOf, mid-len}
-use Rattle.steps_2_to_4.specs.Vectors.{keptFrom}
+use Rattle.steps_2_to_4.specs.Workers.Vectors.{keptFrom}
 use Rattle.steps_2_to_4.proofs.PartLaws.{Rows, rows-none, rows-next}
 use Rattle.steps_2_to_4.proofs.claims.new_use_claims.Statement.{statement}
 use Rattle.steps_2_to_4.proofs.claims.new_use_claims.Tie as tie

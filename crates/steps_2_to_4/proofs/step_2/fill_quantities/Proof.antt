@@ -1,6 +1,6 @@
 -- `fill_quantities` meets its contract: after h turns the first h holders have theirs.
 use Rattle.base.proofs.Prelude.{ℕ, _-_, _*_, _/_, List, arith, length, now, needs, at}
-use Rattle.steps_2_to_4.proofs.VectorLaws.{Filling, filling-none, filling-next, filling-all}
+use Rattle.base.proofs.VectorLaws.{Filling, filling-none, filling-next, filling-all}
 use Rattle.steps_2_to_4.proofs.step_2.fill_quantities.Statement.{statement}
 use Rattle.steps_2_to_4.proofs.step_2.fill_quantities.Tie as tie
 

@@ -1,6 +1,6 @@
 -- `differences` meets its contract: after c turns the first c words are written.
 use Rattle.base.proofs.Prelude.{ℕ, _-_, List, arith, length, now, needs, at}
-use Rattle.steps_2_to_4.proofs.VectorLaws.{Filling, filling-none, filling-next, filling-all}
+use Rattle.base.proofs.VectorLaws.{Filling, filling-none, filling-next, filling-all}
 use Rattle.steps_2_to_4.proofs.vectors.differences.Statement.{statement}
 use Rattle.steps_2_to_4.proofs.vectors.differences.Tie as tie
 
