@@ -28,6 +28,11 @@
 extern "C" {
 #endif
 
+/* The version, as a number (10,000 x major + 100 x minor + patch) and as text. */
+
+#define ZANKURBE_VERSION 10000
+#define ZANKURBE_VERSION_TEXT "1.0.0"
+
 /* Sizes of lent memory. */
 
 /* The words that a state has at least; the words after them stay. */
@@ -230,6 +235,9 @@ struct zankurbe_verdict {
     uint64_t kw;
     uint64_t passes;
 };
+
+/* The version of the library that is linked, which is ZANKURBE_VERSION where it is this header's. */
+uint32_t zankurbe_version(void);
 
 /*
  * Shares a pool of kW out over claims by weight, in passes. Writes the grant of each claim into the first

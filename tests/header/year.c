@@ -529,8 +529,20 @@ static void contended_closing(void)
     CHECK(word(ZANKURBE_ROW_UNPLACED, 0) == 75 && word(ZANKURBE_ROW_UNPLACED, 1) == 125);
 }
 
+/* The library linked is the header's, and the version's text is that of its number. */
+static void version(void)
+{
+    char text[16];
+
+    CHECK(zankurbe_version() == ZANKURBE_VERSION);
+    snprintf(text, sizeof text, "%d.%d.%d", ZANKURBE_VERSION / 10000, ZANKURBE_VERSION / 100 % 100,
+             ZANKURBE_VERSION % 100);
+    CHECK(strcmp(text, ZANKURBE_VERSION_TEXT) == 0);
+}
+
 int main(void)
 {
+    version();
     sheet_len = write_sheet(sheet, 1, 3, case_i, COUNT(case_i));
     structs();
     share_outs();

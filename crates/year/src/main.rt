@@ -8,7 +8,6 @@ mod running;
 
 use base::limits::MOST_SHEET_BYTES;
 use base::limits::STATE_WORDS;
-use base::limits::STATE_WORDS;
 use input::Read;
 use journal::sizes::ANSWERS_WORDS;
 use journal::sizes::CALLS_WORDS;

@@ -3,6 +3,7 @@ use base::Answer;
 use posting::rows::NUMBERS;
 use same::Verdict;
 ghost use mathlib.Core.Path.{_≡_};
+ghost use Rattle.zankurbe.specs.Version.{version};
 ghost use Rattle.share_out.specs.Rule.{shareOut};
 ghost use Rattle.sheet_records.specs.Refusal.{sheetRefusal};
 ghost use Rattle.state.specs.Orderly.{stateRefusal};
@@ -18,6 +19,17 @@ ghost use Rattle.closing.specs.Close.{close};
 ghost use Rattle.lists.specs.Encoded.{run};
 ghost use Rattle.carrying.specs.Carry.{carried};
 
+// The version of the library, named here once: 10,000 · major + 100 · minor + patch.
+pub const VERSION: u32 = 10_000;
+
+// The version of the library.
+#[no_mangle]
+pub extern "C" fn zankurbe_version() -> u32
+    ensures { λ r. ⌜ r ≡ version ⌝ }
+{
+    VERSION
+}
+
 // Shares a pool out over claims by weight (share_out::share_out).
 #[no_mangle]
 pub extern "C" fn zankurbe_share_out(
@@ -26,7 +38,8 @@ pub extern "C" fn zankurbe_share_out(
     weights: &[u64],
     output: &mut [u64],
 ) -> Answer
-    ensures { λ r. ⌜ (r ≡ shareOut pool (now (claims .entry)) (now (weights .entry)) (now (output .entry)) .answer) × (now (output .exit) ≡ shareOut pool (now (claims .entry)) (now (weights .entry)) (now (output .entry)) .output) ⌝ }
+    ensures { λ r. let shared = shareOut pool (now (claims .entry)) (now (weights .entry)) (now (output .entry)) in
+        ⌜ (r ≡ shared .answer) × (now (output .exit) ≡ shared .output) ⌝ }
 {
     share_out::share_out(pool, claims, weights, output)
 }
@@ -50,7 +63,8 @@ pub extern "C" fn zankurbe_state_refusal(state: &[u32]) -> u32
 // Opens the year from a sheet (Steps 1 to 7); answers T.
 #[no_mangle]
 pub extern "C" fn zankurbe_open(sheet: &[u8], state: &mut [u32]) -> Answer
-    ensures { λ r. ⌜ (r ≡ opened (now (sheet .entry)) (now (state .entry)) .answer) × (now (state .exit) ≡ opened (now (sheet .entry)) (now (state .entry)) .state) ⌝ }
+    ensures { λ r. let year = opened (now (sheet .entry)) (now (state .entry)) in
+        ⌜ (r ≡ year .answer) × (now (state .exit) ≡ year .state) ⌝ }
 {
     opening::open(sheet, state)
 }
@@ -58,7 +72,8 @@ pub extern "C" fn zankurbe_open(sheet: &[u8], state: &mut [u32]) -> Answer
 // Posts a sheet: T, and the numbers of its lines in ten rows of 48 (posting::post).
 #[no_mangle]
 pub extern "C" fn zankurbe_post(sheet: &[u8], lines: &mut [u64; NUMBERS]) -> Answer
-    ensures { λ r. ⌜ (r ≡ posted (now (sheet .entry)) (now (lines .entry)) .answer) × (now (lines .exit) ≡ posted (now (sheet .entry)) (now (lines .entry)) .lines) ⌝ }
+    ensures { λ r. let posting = posted (now (sheet .entry)) (now (lines .entry)) in
+        ⌜ (r ≡ posting .answer) × (now (lines .exit) ≡ posting .lines) ⌝ }
 {
     posting::post(sheet, lines)
 }
@@ -74,7 +89,8 @@ pub extern "C" fn zankurbe_same(first: &[u8], second: &[u8]) -> Verdict
 // Trades unplaced kW from one holder to another (stage 1).
 #[no_mangle]
 pub extern "C" fn zankurbe_trade(state: &mut [u32], seller: u32, buyer: u32, kw: u64) -> Answer
-    ensures { λ r. ⌜ (r ≡ trade (now (state .entry)) seller buyer kw .answer) × (now (state .exit) ≡ trade (now (state .entry)) seller buyer kw .state) ⌝ }
+    ensures { λ r. let traded = trade (now (state .entry)) seller buyer kw in
+        ⌜ (r ≡ traded .answer) × (now (state .exit) ≡ traded .state) ⌝ }
 {
     trading::trade(state, seller, buyer, kw)
 }
@@ -82,7 +98,8 @@ pub extern "C" fn zankurbe_trade(state: &mut [u32], seller: u32, buyer: u32, kw:
 // Requests kW on an intertie (stages 2 and 3).
 #[no_mangle]
 pub extern "C" fn zankurbe_request(state: &mut [u32], holder: u32, intertie: u32, kw: u64) -> Answer
-    ensures { λ r. ⌜ (r ≡ request (now (state .entry)) holder intertie kw .answer) × (now (state .exit) ≡ request (now (state .entry)) holder intertie kw .state) ⌝ }
+    ensures { λ r. let requested = request (now (state .entry)) holder intertie kw in
+        ⌜ (r ≡ requested .answer) × (now (state .exit) ≡ requested .state) ⌝ }
 {
     trading::request(state, holder, intertie, kw)
 }
@@ -96,7 +113,8 @@ pub extern "C" fn zankurbe_move(
     intertie: u32,
     kw: u64,
 ) -> Answer
-    ensures { λ r. ⌜ (r ≡ move (now (state .entry)) giver taker intertie kw .answer) × (now (state .exit) ≡ move (now (state .entry)) giver taker intertie kw .state) ⌝ }
+    ensures { λ r. let moved = move (now (state .entry)) giver taker intertie kw in
+        ⌜ (r ≡ moved .answer) × (now (state .exit) ≡ moved .state) ⌝ }
 {
     holding::move_kw(state, giver, taker, intertie, kw)
 }
@@ -110,7 +128,8 @@ pub extern "C" fn zankurbe_lock(
     kw: u64,
     term: u32,
 ) -> Answer
-    ensures { λ r. ⌜ (r ≡ lock (now (state .entry)) holder intertie kw term .answer) × (now (state .exit) ≡ lock (now (state .entry)) holder intertie kw term .state) ⌝ }
+    ensures { λ r. let locked = lock (now (state .entry)) holder intertie kw term in
+        ⌜ (r ≡ locked .answer) × (now (state .exit) ≡ locked .state) ⌝ }
 {
     holding::lock(state, holder, intertie, kw, term)
 }
@@ -124,7 +143,8 @@ pub extern "C" fn zankurbe_take(
     kw: u64,
     day: u32,
 ) -> Answer
-    ensures { λ r. ⌜ (r ≡ take (now (state .entry)) holder intertie kw day .answer) × (now (state .exit) ≡ take (now (state .entry)) holder intertie kw day .state) ⌝ }
+    ensures { λ r. let taken = take (now (state .entry)) holder intertie kw day in
+        ⌜ (r ≡ taken .answer) × (now (state .exit) ≡ taken .state) ⌝ }
 {
     taking::take(state, holder, intertie, kw, day)
 }
@@ -132,15 +152,13 @@ pub extern "C" fn zankurbe_take(
 // Closes the stage (1 to 3): grants what is pending, writes the grants and raises the stage.
 #[no_mangle]
 pub extern "C" fn zankurbe_close(state: &mut [u32], grants: &mut [u32]) -> Answer
-    ensures { λ r. ⌜ (r ≡ close (now (state .entry)) (now (grants .entry)) .answer)
-        × (now (state .exit) ≡ close (now (state .entry)) (now (grants .entry)) .state)
-        × (now (grants .exit) ≡ close (now (state .entry)) (now (grants .entry)) .grants) ⌝ }
+    ensures { λ r. let closed = close (now (state .entry)) (now (grants .entry)) in
+        ⌜ (r ≡ closed .answer) × (now (state .exit) ≡ closed .state) × (now (grants .exit) ≡ closed .grants) ⌝ }
 {
     closing::close(state, grants)
 }
 
-// Runs a list of calls, six words each; closings are lent 1,536 words of the grants each, and every
-// call gets three words of the answers. False, and nothing touched, where the words are no such list.
+// Runs a list of calls (lists::run_calls). False, and nothing touched, where the words are no such list.
 #[no_mangle]
 pub extern "C" fn zankurbe_run_calls(
     calls: &[u32],
@@ -148,10 +166,9 @@ pub extern "C" fn zankurbe_run_calls(
     grants: &mut [u32],
     answers: &mut [u64],
 ) -> bool
-    ensures { λ r. ⌜ (r ≡ run (now (calls .entry)) (now (state .entry)) (now (grants .entry)) (now (answers .entry)) .done)
-        × (now (state .exit) ≡ run (now (calls .entry)) (now (state .entry)) (now (grants .entry)) (now (answers .entry)) .state)
-        × (now (grants .exit) ≡ run (now (calls .entry)) (now (state .entry)) (now (grants .entry)) (now (answers .entry)) .grants)
-        × (now (answers .exit) ≡ run (now (calls .entry)) (now (state .entry)) (now (grants .entry)) (now (answers .entry)) .answers) ⌝ }
+    ensures { λ r. let ran = run (now (calls .entry)) (now (state .entry)) (now (grants .entry)) (now (answers .entry)) in
+        ⌜ (r ≡ ran .done) × (now (state .exit) ≡ ran .state)
+        × (now (grants .exit) ≡ ran .grants) × (now (answers .exit) ≡ ran .answers) ⌝ }
 {
     lists::run_calls(calls, state, grants, answers)
 }
@@ -159,8 +176,8 @@ pub extern "C" fn zankurbe_run_calls(
 // Writes next year's sheet into the output (stage 4), from this year's sheet and state.
 #[no_mangle]
 pub extern "C" fn zankurbe_carry(sheet: &[u8], state: &[u32], output: &mut [u8]) -> Answer
-    ensures { λ r. ⌜ (r ≡ carried (now (sheet .entry)) (now (state .entry)) (now (output .entry)) .answer)
-        × (now (output .exit) ≡ carried (now (sheet .entry)) (now (state .entry)) (now (output .entry)) .output) ⌝ }
+    ensures { λ r. let next = carried (now (sheet .entry)) (now (state .entry)) (now (output .entry)) in
+        ⌜ (r ≡ next .answer) × (now (output .exit) ≡ next .output) ⌝ }
 {
     carrying::carry(sheet, state, output)
 }

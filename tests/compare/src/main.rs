@@ -56,6 +56,7 @@ fn suite(
 }
 
 fn main() {
+    println!("library version {}", zankurbe::version());
     programs::make_folder();
     let suites = [
         suite("share-outs", share_outs::CASES, &[], |number, _| {

@@ -32,6 +32,7 @@ struct RawVerdict {
 }
 
 extern "C" {
+    fn zankurbe_version() -> u32;
     fn zankurbe_share_out(
         pool: u64,
         claims: *const u64,
@@ -122,6 +123,11 @@ extern "C" {
         second: *const u8,
         second_len: usize,
     ) -> RawVerdict;
+}
+
+/// 10,000 · major + 100 · minor + patch.
+pub fn version() -> u32 {
+    unsafe { zankurbe_version() }
 }
 
 pub fn share_out(pool: u64, claims: &[u64], weights: &[u64], output: &mut [u64]) -> Answer {

@@ -113,11 +113,14 @@ fn compare(root: &Path) -> Result<Findings, String> {
         &expected(&RUST, &library, &functions)?,
         &declarations::of_rust(&declarations),
     );
-    let numbers = library.constant("posting", "NUMBERS")?;
+    let numbers = library.constant("posting/src/lib.rt", "NUMBERS")?;
     findings.note(
         declarations.contains(&format!("POSTED_NUMBERS: usize = {numbers};")),
         || format!("{DECLARATIONS}: POSTED_NUMBERS is not {numbers}"),
     );
+    findings.note(constants::version_agrees(&header, &library)?, || {
+        format!("{HEADER}: the version's text is not that of its number")
+    });
     compare_constants(&header, &library, &mut findings)?;
     Ok(findings)
 }

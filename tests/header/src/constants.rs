@@ -12,71 +12,116 @@ use independent::year::{
     TRADING,
 };
 
-/// The header's constant, the crate and its constant. A constant of the state stands here exactly once.
-const OF_THE_LIBRARY: [(&str, &str, &str); 62] = [
-    ("STATE_WORDS", "base", "STATE_WORDS"),
-    ("ROW_WORDS", "state", "ROW_WORDS"),
-    ("ROW_SIZES", "state", "SIZES"),
-    ("COLUMN_INTERTIES", "state", "INTERTIES"),
-    ("COLUMN_HOLDERS", "state", "HOLDERS"),
-    ("ROW_LIMIT", "state", "LIMIT"),
-    ("ROW_OUTSIDE", "state", "OUTSIDE"),
-    ("ROW_LOAD_SHARE", "state", "LOAD_SHARE"),
-    ("ROW_STEP_5_SHARE", "state", "STEP_5_SHARE"),
-    ("ROW_STEP_7_TOTAL", "state", "STEP_7_TOTAL"),
-    ("ROW_RESERVED", "state", "RESERVED"),
-    ("ROW_EXISTING", "state", "EXISTING"),
-    ("ROW_PRE_RA", "state", "PRE_RA"),
-    ("ROW_NEW_USE", "state", "NEW_USE"),
-    ("ROW_YEAR", "state", "YEAR"),
-    ("COLUMN_STAGE", "state", "STAGE"),
-    ("COLUMN_LAST_DAY", "state", "LAST_DAY"),
-    ("ROW_UNASSIGNED", "state", "UNASSIGNED"),
-    ("ROW_UNPLACED", "state", "UNPLACED"),
-    ("ROW_SELLERS", "state", "SELLERS"),
-    ("ROW_LAST_WEEK", "state", "LAST_WEEK"),
-    ("ROW_TAKINGS", "state", "TAKINGS"),
-    ("ROW_PLACED", "state", "PLACED"),
-    ("ROW_TAKEN", "state", "TAKEN"),
-    ("ROW_LOCKED", "state", "LOCKED"),
-    ("ROW_TERM", "state", "TERM"),
-    ("ROW_PENDING", "state", "PENDING"),
-    ("STAGE_TRADING", "base", "TRADING"),
-    ("STAGE_FIRST_REQUESTS", "base", "FIRST_REQUESTS"),
-    ("STAGE_SECOND_REQUESTS", "base", "SECOND_REQUESTS"),
-    ("STAGE_OPEN", "base", "OPEN"),
-    ("MOST_INTERTIES", "base", "MOST_INTERTIES"),
-    ("MOST_HOLDERS", "base", "MOST_HOLDERS"),
-    ("MOST_KW", "base", "MOST_KW"),
-    ("MOST_LOAD_SHARE", "base", "MOST_LOAD_SHARE"),
-    ("MOST_TAKINGS", "base", "MOST_TAKINGS"),
-    ("MOST_YEARS", "base", "MOST_YEARS"),
-    ("MOST_HOLDER_KW", "base", "MOST_TOTAL_KW"),
-    ("MOST_UNPLACED_KW", "base", "MOST_TOTAL_KW"),
-    ("MOST_HOLDERS", "share_out", "MOST_HOLDERS"),
-    ("MOST_KW", "share_out", "MOST_POOL_KW"),
-    ("MOST_CLAIM_KW", "share_out", "MOST_CLAIM_KW"),
-    ("MOST_WEIGHT", "share_out", "MOST_WEIGHT"),
-    ("MOST_RECORDS", "base", "MOST_RECORDS"),
-    ("MOST_RANK", "base", "MOST_RANK"),
-    ("SHEET_HEADER_BYTES", "base", "SHEET_HEADER_BYTES"),
-    ("RECORD_BYTES", "base", "RECORD_BYTES"),
-    ("MOST_SHEET_BYTES", "base", "MOST_SHEET_BYTES"),
-    ("KEY_HOLDER_SHIFT", "sheet_records", "HOLDER_SHIFT"),
-    ("KEY_INTERTIE_SHIFT", "sheet_records", "INTERTIE_SHIFT"),
-    ("KEY_RANK_SHIFT", "sheet_records", "RANK_SHIFT"),
-    ("KEY_YEARS_SHIFT", "sheet_records", "YEARS_SHIFT"),
-    ("POST_NUMBERS", "posting", "NUMBERS"),
-    ("GRANTS_WORDS", "base", "GRANTS_WORDS"),
-    ("CALL_WORDS", "encoding", "CALL_WORDS"),
-    ("ANSWER_WORDS", "encoding", "ANSWER_WORDS"),
-    ("CALL_TRADE", "encoding", "TRADE"),
-    ("CALL_REQUEST", "encoding", "REQUEST"),
-    ("CALL_CLOSE", "encoding", "CLOSE"),
-    ("CALL_TAKE", "encoding", "TAKE"),
-    ("CALL_MOVE", "encoding", "MOVE"),
-    ("CALL_LOCK", "encoding", "LOCK"),
+/// The homes of the constants, below crates/.
+const LIMITS: &str = "base/src/limits.rt";
+const REFUSALS: &str = "base/src/refusals.rt";
+const KINDS: &str = "base/src/kinds.rt";
+const STAGES: &str = "base/src/stages.rt";
+const ENCODING: &str = "base/src/encoding.rt";
+const LAYOUT: &str = "state/src/layout.rt";
+const KEY: &str = "sheet_records/src/key.rt";
+
+/// Homes of which the header has every number.
+const WHOLE: [&str; 5] = [REFUSALS, KINDS, STAGES, ENCODING, LAYOUT];
+
+/// The header's constant, its home and its name there.
+const OF_THE_LIBRARY: [(&str, &str, &str); 81] = [
+    ("VERSION", "zankurbe/src/lib.rt", "VERSION"),
+    ("STATE_WORDS", LIMITS, "STATE_WORDS"),
+    ("GRANTS_WORDS", LIMITS, "GRANTS_WORDS"),
+    ("SHEET_HEADER_BYTES", LIMITS, "SHEET_HEADER_BYTES"),
+    ("RECORD_BYTES", LIMITS, "RECORD_BYTES"),
+    ("MOST_SHEET_BYTES", LIMITS, "MOST_SHEET_BYTES"),
+    ("POST_NUMBERS", "posting/src/lib.rt", "NUMBERS"),
+    ("CALL_WORDS", ENCODING, "CALL_WORDS"),
+    ("ANSWER_WORDS", ENCODING, "ANSWER_WORDS"),
+    ("MOST_INTERTIES", LIMITS, "MOST_INTERTIES"),
+    ("MOST_HOLDERS", LIMITS, "MOST_HOLDERS"),
+    ("MOST_RECORDS", LIMITS, "MOST_RECORDS"),
+    ("MOST_KW", LIMITS, "MOST_KW"),
+    ("MOST_LOAD_SHARE", LIMITS, "MOST_LOAD_SHARE"),
+    ("MOST_RANK", LIMITS, "MOST_RANK"),
+    ("MOST_YEARS", LIMITS, "MOST_YEARS"),
+    ("MOST_CLAIM_KW", LIMITS, "MOST_CLAIM_KW"),
+    ("MOST_WEIGHT", LIMITS, "MOST_LOAD_SHARE"),
+    ("MOST_HOLDER_KW", LIMITS, "MOST_TOTAL_KW"),
+    ("MOST_UNPLACED_KW", LIMITS, "MOST_TOTAL_KW"),
+    ("MOST_TAKINGS", LIMITS, "MOST_TAKINGS"),
+    ("RECORD_LIMIT", KINDS, "LIMIT"),
+    ("RECORD_OUTSIDE_RIGHT", KINDS, "OUTSIDE_RIGHT"),
+    ("RECORD_LOAD_SHARE", KINDS, "LOAD_SHARE"),
+    ("RECORD_EXISTING_CONTRACT", KINDS, "EXISTING_CONTRACT"),
+    ("RECORD_PRE_RA_COMMITMENT", KINDS, "PRE_RA_COMMITMENT"),
+    ("RECORD_NEW_USE_COMMITMENT", KINDS, "NEW_USE_COMMITMENT"),
+    ("KEY_HOLDER_SHIFT", KEY, "HOLDER_SHIFT"),
+    ("KEY_INTERTIE_SHIFT", KEY, "INTERTIE_SHIFT"),
+    ("KEY_RANK_SHIFT", KEY, "RANK_SHIFT"),
+    ("KEY_YEARS_SHIFT", KEY, "YEARS_SHIFT"),
+    ("ROW_WORDS", LAYOUT, "ROW_WORDS"),
+    ("ROW_SIZES", LAYOUT, "SIZES"),
+    ("COLUMN_INTERTIES", LAYOUT, "INTERTIES"),
+    ("COLUMN_HOLDERS", LAYOUT, "HOLDERS"),
+    ("ROW_LIMIT", LAYOUT, "LIMIT"),
+    ("ROW_OUTSIDE", LAYOUT, "OUTSIDE"),
+    ("ROW_LOAD_SHARE", LAYOUT, "LOAD_SHARE"),
+    ("ROW_STEP_5_SHARE", LAYOUT, "STEP_5_SHARE"),
+    ("ROW_STEP_7_TOTAL", LAYOUT, "STEP_7_TOTAL"),
+    ("ROW_RESERVED", LAYOUT, "RESERVED"),
+    ("ROW_EXISTING", LAYOUT, "EXISTING"),
+    ("ROW_PRE_RA", LAYOUT, "PRE_RA"),
+    ("ROW_NEW_USE", LAYOUT, "NEW_USE"),
+    ("ROW_YEAR", LAYOUT, "YEAR"),
+    ("COLUMN_STAGE", LAYOUT, "STAGE"),
+    ("COLUMN_LAST_DAY", LAYOUT, "LAST_DAY"),
+    ("ROW_UNASSIGNED", LAYOUT, "UNASSIGNED"),
+    ("ROW_UNPLACED", LAYOUT, "UNPLACED"),
+    ("ROW_SELLERS", LAYOUT, "SELLERS"),
+    ("ROW_LAST_WEEK", LAYOUT, "LAST_WEEK"),
+    ("ROW_TAKINGS", LAYOUT, "TAKINGS"),
+    ("ROW_PLACED", LAYOUT, "PLACED"),
+    ("ROW_TAKEN", LAYOUT, "TAKEN"),
+    ("ROW_LOCKED", LAYOUT, "LOCKED"),
+    ("ROW_TERM", LAYOUT, "TERM"),
+    ("ROW_PENDING", LAYOUT, "PENDING"),
+    ("STAGE_TRADING", STAGES, "TRADING"),
+    ("STAGE_FIRST_REQUESTS", STAGES, "FIRST_REQUESTS"),
+    ("STAGE_SECOND_REQUESTS", STAGES, "SECOND_REQUESTS"),
+    ("STAGE_OPEN", STAGES, "OPEN"),
+    ("CALL_TRADE", ENCODING, "TRADE"),
+    ("CALL_REQUEST", ENCODING, "REQUEST"),
+    ("CALL_CLOSE", ENCODING, "CLOSE"),
+    ("CALL_TAKE", ENCODING, "TAKE"),
+    ("CALL_MOVE", ENCODING, "MOVE"),
+    ("CALL_LOCK", ENCODING, "LOCK"),
+    ("REFUSED_SHEET_LENGTH", REFUSALS, "SHEET_LENGTH"),
+    ("REFUSED_SIZES", REFUSALS, "SIZES"),
+    ("REFUSED_RECORDS", REFUSALS, "RECORDS"),
+    ("REFUSED_ABOVE_LIMIT", REFUSALS, "ABOVE_LIMIT"),
+    ("REFUSED_ROOM", REFUSALS, "ROOM"),
+    ("REFUSED_NOT_ORDERLY", REFUSALS, "NOT_ORDERLY"),
+    ("REFUSED_STAGE", REFUSALS, "STAGE"),
+    ("REFUSED_NO_SUCH", REFUSALS, "NO_SUCH"),
+    ("REFUSED_RANGE", REFUSALS, "RANGE"),
+    ("REFUSED_TOO_MUCH", REFUSALS, "TOO_MUCH"),
+    ("REFUSED_DAY", REFUSALS, "DAY"),
+    ("REFUSED_NONE_LEFT", REFUSALS, "NONE_LEFT"),
+    ("REFUSED_LOCK", REFUSALS, "LOCK"),
+    ("REFUSED_CARRY", REFUSALS, "CARRY"),
 ];
+
+/// The header's only text.
+const VERSION_TEXT: &str = "ZANKURBE_VERSION_TEXT";
+
+/// Whether the header's text of the version is that of the library's number.
+pub fn version_agrees(header: &str, library: &Library) -> Result<bool, String> {
+    let version = library.constant("zankurbe/src/lib.rt", "VERSION")?;
+    let (major, minor, patch) = (version / 10_000, version / 100 % 100, version % 100);
+    let line = format!("#define {VERSION_TEXT} \"{major}.{minor}.{patch}\"");
+    Ok(header
+        .lines()
+        .filter(|it| it.contains(VERSION_TEXT))
+        .eq([line]))
+}
 
 /// A header's constants, by their names without the prefix, in its order.
 pub fn of_header(header: &str) -> Result<Vec<(String, u64)>, String> {
@@ -86,7 +131,7 @@ pub fn of_header(header: &str) -> Result<Vec<(String, u64)>, String> {
             continue;
         };
         let (name, value) = definition.split_once(' ').unwrap_or((definition, ""));
-        if name.contains('(') || name == "ZANKURBE_H" {
+        if name.contains('(') || name == "ZANKURBE_H" || name == VERSION_TEXT {
             continue;
         }
         let digits = value.trim().trim_start_matches("UINT64_C(");
@@ -103,20 +148,19 @@ pub fn of_header(header: &str) -> Result<Vec<(String, u64)>, String> {
 /// What each constant of the header has to be, by its name, and where that is said.
 pub fn expected(library: &Library) -> Result<Vec<(String, u64, String)>, String> {
     let mut all = Vec::new();
-    for (name, of_crate, constant) in OF_THE_LIBRARY {
-        let value = library.constant(of_crate, constant)?;
-        all.push((
-            name.to_string(),
-            value,
-            format!("crates/{of_crate}, {constant}"),
-        ));
+    for (name, home, constant) in OF_THE_LIBRARY {
+        let value = library.constant(home, constant)?;
+        let place = format!("crates/{home}, {constant}");
+        all.push((name.to_string(), value, place));
     }
-    for (constant, _) in library.constants("state")? {
-        let is_named = |it: &&(&str, &str, &str)| it.1 == "state" && it.2 == constant;
-        if OF_THE_LIBRARY.iter().filter(is_named).count() != 1 {
-            return Err(format!(
-                "crates/state: {constant} has no name in the header"
-            ));
+    for home in WHOLE {
+        for (constant, _) in library.constants(home)? {
+            let is_named = |it: &&(&str, &str, &str)| it.1 == home && it.2 == constant;
+            if OF_THE_LIBRARY.iter().filter(is_named).count() != 1 {
+                return Err(format!(
+                    "crates/{home}: {constant} has no name in the header"
+                ));
+            }
         }
     }
     for (name, value) in of_the_independent_program() {

@@ -36,7 +36,14 @@ pub const C: Language = Language {
     },
     array: |name, element| format!("{element} {name}[ZANKURBE_POST_NUMBERS]"),
     single: |name, of_type| format!("{of_type} {name}"),
-    function: |name, parameters, result| format!("{result} {name}({parameters})"),
+    function: |name, parameters, result| {
+        let parameters = if parameters.is_empty() {
+            "void"
+        } else {
+            parameters
+        };
+        format!("{result} {name}({parameters})")
+    },
     structure: |name, fields| format!("{name} {{ {}; }}", fields.join("; ")),
     structs: [
         ("Answer", "struct zankurbe_answer"),

@@ -73,31 +73,57 @@ impl Library {
         ))
     }
 
-    /// The value of a constant of a crate; all constants of that name in the crate have it.
-    pub fn constant(&self, of_crate: &str, name: &str) -> Result<u64, String> {
-        let mut values: Vec<u64> = self
-            .constants(of_crate)?
+    /// The value of a constant of a file below crates/: a number, or a product of numbers and of constants
+    /// that the file or a home of numbers has.
+    pub fn constant(&self, file: &str, name: &str) -> Result<u64, String> {
+        let unread = || format!("crates/{file}: no constant {name} that can be read");
+        let (_, value) = self
+            .definitions(file)?
             .into_iter()
-            .filter(|constant| constant.0 == name)
-            .map(|constant| constant.1)
-            .collect();
-        values.dedup();
-        match values[..] {
-            [value] => Ok(value),
-            [] => Err(format!("crates/{of_crate}: no constant {name}")),
-            _ => Err(format!("crates/{of_crate}: several values of {name}")),
+            .find(|it| it.0 == name)
+            .ok_or_else(unread)?;
+        let mut product = 1;
+        for factor in value.split('*') {
+            let factor = factor.split(" as ").next().unwrap_or(factor).trim();
+            product *= match factor.replace('_', "").parse() {
+                Ok(number) => number,
+                Err(_) => self.named(file, factor).ok_or_else(unread)?,
+            };
         }
+        Ok(product)
     }
 
-    /// All constants of a crate that are a number.
-    pub fn constants(&self, of_crate: &str) -> Result<Vec<(String, u64)>, String> {
-        let source = self.source(of_crate)?;
+    /// A constant that another names, by the last part of its path.
+    fn named(&self, file: &str, path: &str) -> Option<u64> {
+        let name = path.rsplit("::").next()?;
+        let files = [file, "base/src/limits.rt", "state/src/layout.rt"];
+        let home = files.into_iter().find(|file| {
+            self.definitions(file)
+                .is_ok_and(|all| all.iter().any(|it| it.0 == name))
+        })?;
+        self.constant(home, name).ok()
+    }
+
+    /// All constants of a file below crates/ that are a number.
+    pub fn constants(&self, file: &str) -> Result<Vec<(String, u64)>, String> {
+        let numbers = self.definitions(file)?.into_iter().filter_map(|it| {
+            let number = it.1.replace('_', "").parse().ok()?;
+            Some((it.0, number))
+        });
+        Ok(numbers.collect())
+    }
+
+    /// All constants of a file, with what they are defined as.
+    fn definitions(&self, file: &str) -> Result<Vec<(String, String)>, String> {
+        let path = self.crates.join(file);
+        let source = fs::read_to_string(&path).map_err(|e| format!("{}: {e}", path.display()))?;
+        let source = without_comments(&source);
         let found = source.lines().filter_map(|line| {
             let (_, rest) = line.split_once("const ")?;
             let (name, rest) = rest.split_once(':')?;
             let (_, value) = rest.split_once('=')?;
-            let digits = value.trim().strip_suffix(';')?.replace('_', "");
-            Some((name.trim().to_string(), digits.parse().ok()?))
+            let value = value.trim().strip_suffix(';')?;
+            Some((name.trim().to_string(), value.to_string()))
         });
         Ok(found.collect())
     }

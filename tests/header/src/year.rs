@@ -236,6 +236,7 @@ fn calls(both: &mut Both, checks: &mut Checks) {
     call!(both, checks, refused(13), lock(1, 0, 1, 5));
     call!(both, checks, granted(10_000), lock(0, 0, 10_000, 30));
     close(both, checks, refused(7));
+    checks.check("a version from 1.0.0 on", zankurbe::version() >= 10_000);
     checks.check(
         "an orderly state",
         zankurbe::state_refusal(&both.words) == 0 && both.year.is_orderly(),
