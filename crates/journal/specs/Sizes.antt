@@ -1,5 +1,6 @@
--- How many calls a journal has at most; src/sizes.rt has the same.
+-- How long a journal is at most; src/sizes.rt has the same.
 use Prim.Native.Nat.{ℕ}
 
+-- its calls
 abbrev pub mostCalls : ℕ
 mostCalls = 16384

@@ -25,6 +25,7 @@ pub record Result : Type 0 where
   pub state : List ℕ
   pub grants : List ℕ
 
+-- a call without a grants buffer
 abbrev pub noGrants : Outcome → Result
 noGrants o = record { answer = o .answer; state = o .state; grants = [] }
 

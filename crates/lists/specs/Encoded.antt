@@ -25,9 +25,11 @@ wordsOf encoded n = take callWords (drop (callWords * n) encoded)
 abbrev pub kindOf : List ℕ → ℕ
 kindOf words = at words 0
 
+-- trade is the first kind, lock the last
 abbrev pub knownKind : ℕ → Bool
 knownKind kind = leb tradeCall kind && leb kind lockCall
 
+-- whether the words of a call are a closing's
 abbrev pub isClosing : List ℕ → Bool
 isClosing words = eqb (kindOf words) closeCall
 
