@@ -4,7 +4,6 @@ use mathlib.Core.Path.{_≡_, refl, sym, ap, _∙_}
 use mathlib.Core.Bool.{Bool, true, false, _&&_, _||_, not}
 use mathlib.Core.Logic.{_≢_}
 use mathlib.Core.List.{List}
-use native.Mathlib.Omega.{arith}
 use lib.Dec.{eqb, ltb, leb}
 use lib.ListN.{length, take}
 use borrow.Author.Tests.{ne-eqb, le-ltb, ltb-false, not-false}
@@ -18,7 +17,7 @@ use Rattle.sheet_records.specs.Sheet as Sheet
 use Rattle.sheet_records.specs.Sheet.{sizeOf}
 use Rattle.sheet_records.specs.Bytes.{sheetBytes, withSheet}
 use Rattle.sheet_records.specs.Refusal.{badLength, sheetRefusal}
-use Rattle.sheet_reading.proofs.SheetLaws.{standing, first-words}
+use Rattle.sheet_reading.proofs.SheetLaws.{conditions, standing, first-words}
 use Rattle.state.specs.Layout as Layout
 use Rattle.state.specs.Orderly.{stateRefusal}
 use Rattle.state.proofs.OrderlyLaws.{Orderly, refusal-none}
@@ -41,12 +40,7 @@ module _ (sheet state : List ℕ) (e : earlyRefusal sheet state ≡ 0) where
   state-stands = refusal-none state (none-first (stateRefusal state) _ (none-second (sheetRefusal sheet) _ e)) .1
 
   pub length-stands : badLength sheet ≡ false
-  unfolding sheetRefusal
-  length-stands = first (badLength sheet) _ sheet-stands
-    where
-      first : (b : Bool) (n : ℕ) → pick b 1 n ≡ 0 → b ≡ false
-      first true n z = absurd (omega arith)
-      first false n z = refl
+  length-stands = conditions sheet sheet-stands .0
 
   pub few-records : Sheet.count sheet ≤ 1024
   few-records = standing sheet sheet-stands .few-records

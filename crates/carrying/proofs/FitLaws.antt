@@ -1,16 +1,15 @@
 -- The lines of next year's sheet fit the widths of a key, so the drafted keys and quantities are theirs.
-use Prim.Native.Nat.{ℕ, zero, suc, _+_, _-_, _*_, _/_, _%_, _≤_, _<_}
+use Prim.Native.Nat.{ℕ, zero, suc, _+_, _-_, _*_, _≤_, _<_}
 use mathlib.Core.Path.{_≡_, refl, sym, ap, _∙_}
-use mathlib.Core.Bool.{Bool, true, false, _||_, not}
-use mathlib.Core.Logic.{_≢_, _⊎_, inl, inr, ⊎-elim}
+use mathlib.Core.Bool.{true, _||_, not}
+use mathlib.Core.Logic.{_⊎_, inl, inr, ⊎-elim}
 use mathlib.Core.List.{List, [], _∷_, map}
 use native.Mathlib.Nat.{le-trans, le-max-left, le-max-right, not-suc-le-zero, le-of-suc-le-suc}
 use native.Mathlib.Omega.{arith}
-use lib.Dec.{eqb, ltb, leb}
+use lib.Dec.{ltb, leb}
 use lib.ListN.{length, length-map, take, List·getD-map}
 use lib.Seq.{ext-getD, getD-take, length-take-le}
-use borrow.Author.Tests.{eq-eqb, eqb-false, ltb-true, ltb-false, leb-true}
-use Rattle.base.specs.Choice.{pick}
+use borrow.Author.Tests.{eq-eqb, ltb-true, leb-true}
 use Rattle.base.specs.Sums.{allTo}
 use Rattle.base.specs.Words.{at}
 use Rattle.base.proofs.ChoiceLaws.{pick-by}

@@ -1,13 +1,12 @@
 -- What carry writes is a sheet that is not refused, and its records are the lines of next year's sheet.
 use Prim.Native.Nat.{ℕ, _+_, _-_, _*_, _≤_, _<_}
-use mathlib.Core.Path.{_≡_, refl, sym, ap, _∙_}
+use mathlib.Core.Path.{_≡_, refl, ap, _∙_}
 use mathlib.Core.Bool.{Bool, true, false, _&&_, _||_, not}
 use mathlib.Core.List.{List, _++_}
 use native.Mathlib.Omega.{arith}
 use lib.Dec.{eqb, ltb, leb}
 use lib.ListN.{length, drop}
 use borrow.Author.Tests.{eqb-true, leb-true, leb-false, ltb-false, le-leb, le-ltb, eq-eqb, ne-eqb, not-false}
-use Rattle.base.specs.Choice.{pick}
 use Rattle.base.specs.Sums.{allTo}
 use Rattle.base.specs.Words.{at}
 use Rattle.base.proofs.ChoiceLaws.{and-left, and-right, and-both, or-left, or-right}
@@ -64,20 +63,10 @@ record Rules (s : List ℕ) : Type 0 where
   one-load-share : (h : ℕ) → h < Sheet.holders s → howMany s (isLoadShare h) ≤ 1
   one-rank : (h r : ℕ) → h < Sheet.holders s → r < 256 → howMany s (isNewUse h r) ≤ 1
 
-rules-hold : (s : List ℕ) → sheetRefusal s ≡ 0 → rulesHold s ≡ true
-unfolding sheetRefusal
-rules-hold s e = go (badLength s) (badSizes s) (rulesHold s) (limitsHold s) e
-  where
-    go : (a b c d : Bool) → pick {A = ℕ} a 1 (pick b 2 (pick (not c) 3 (pick (not d) 4 0))) ≡ 0 → c ≡ true
-    go true b c d e = absurd (omega arith)
-    go false true c d e = absurd (omega arith)
-    go false false true d e = refl
-    go false false false d e = absurd (omega arith)
-
 rules : (s : List ℕ) → sheetRefusal s ≡ 0 → Rules s
 unfolding rulesHold oneLimitEach oneLoadShareEach noRankTwice
 rules s e =
-    let all = rules-hold s e in
+    let all = SheetLaws.conditions s e .2 in
     let three = and-left (recordsStand s && oneLimitEach s && oneLoadShareEach s) (noRankTwice s) all in
     let two = and-left (recordsStand s && oneLimitEach s) (oneLoadShareEach s) three in
     record {

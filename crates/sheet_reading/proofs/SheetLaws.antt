@@ -75,7 +75,7 @@ passed-by true n rest f e = absurd (f e)
 passed-by false n rest f e = (refl, e)
 
 -- the four conditions of a sheet that stands
-conditions : (s : List ℕ) → sheetRefusal s ≡ 0 → (badLength s ≡ false) × (badSizes s ≡ false) × (rulesHold s ≡ true) × (limitsHold s ≡ true)
+pub conditions : (s : List ℕ) → sheetRefusal s ≡ 0 → (badLength s ≡ false) × (badSizes s ≡ false) × (rulesHold s ≡ true) × (limitsHold s ≡ true)
 unfolding sheetRefusal
 conditions s e =
     let one = passed-by (badLength s) 1 _ (omega arith) e in

@@ -1,16 +1,13 @@
 -- The slot of a record by its kind, holder, intertie and rank: which records have a given slot.
-use Prim.Native.Nat.{ℕ, _+_, _≤_, _<_}
+use Prim.Native.Nat.{ℕ, _≤_, _<_}
 use mathlib.Core.Path.{_≡_}
 use mathlib.Core.Bool.{_&&_}
-use mathlib.Core.List.{List}
 use native.Mathlib.Omega.{arith}
 use borrow.Author.Tests.{eqb-true, leb-false, lt-leb}
 use lib.Dec.{eqb, leb}
-use Rattle.base.specs.Words.{at}
 use Rattle.base.proofs.ChoiceLaws.{pick-by}
 use Rattle.sheet_records.specs.Key.{kindOf, holderOf, intertieOf, rankOf}
 use Rattle.sheet_reading.specs.Tables.{slot, slotOf, limitSlot, outsideSlot, loadShareSlot, existingSlot, preRaSlot, newUseSlot, slots}
-use Rattle.sheet_reading.specs.Workers.Adding.{add}
 use Rattle.base.proofs.ChoiceLaws.{test-by, equal-two, equal-three}
 
 -- each region of slots belongs to one kind

@@ -1,19 +1,18 @@
 -- A table after n records were added to their slots: at each slot what it had, and the sum of the amounts that went there.
 use Prim.Native.Nat.{ℕ, zero, suc, _+_, _*_, _≤_, _<_, zero-le}
 use mathlib.Core.Path.{_≡_, refl, sym, _∙_}
-use mathlib.Core.Logic.{_≢_}
 use mathlib.Core.List.{List}
 use native.Mathlib.Omega.{arith}
-use borrow.Author.Tests.{eqb-true, eqb-false}
 use lib.Dec.{eqb}
 use lib.ListN.{length, length-set, replicate, length-replicate, getD-replicate}
-use lib.Seq.{getD-set-same, getD-set-other, ext-getD}
+use lib.Seq.{ext-getD}
 use Rattle.base.specs.Choice.{pick}
 use Rattle.base.specs.Sums.{sumTo}
 use Rattle.base.specs.Words.{at, tab}
 use Rattle.base.proofs.SumLaws.{sumTo-bound}
 use Rattle.base.proofs.WordLaws.{length-tab, at-tab}
 use Rattle.base.proofs.ChoiceLaws.{pick-by}
+use Rattle.base.proofs.PlaceLaws.{at-more}
 use Rattle.sheet_reading.specs.Workers.Adding.{add}
 
 -- an empty table
@@ -34,14 +33,6 @@ module _ (slot amount : ℕ → ℕ) where
   length-tally zero l = refl
   length-tally (suc n) l = length-set (tally n l) (slot n) (at (tally n l) (slot n) + amount n) ∙ length-tally n l
 
-pub at-add : (l : List ℕ) (i a j : ℕ) → j < length l → at (add l i a) j ≡ at l j + pick (eqb i j) a 0
-at-add l i a j h =
-    pick-by (λ (x : ℕ). at (add l i a) j ≡ at l j + x) (eqb i j) a 0
-    (λ t. let e : i ≡ j = eqb-true i j t in
-    rw e (getD-set-same l j (at l j + a) 0 h))
-    (λ f. let ne : j ≢ i = λ e. eqb-false i j f (sym e) in
-    getD-set-other l i j (at l i + a) 0 ne ∙ sym (native.Mathlib.Nat.add-zero (at l j)))
-
 pub at-tally : (slot amount : ℕ → ℕ) (n : ℕ) (l : List ℕ) (j : ℕ) → j < length l
     → at (tally slot amount n l) j ≡ at l j + sumTo n (share slot amount j)
 unfolding tally sumTo
@@ -50,7 +41,7 @@ at-tally slot amount (suc n) l j h =
     let t : List ℕ = tally slot amount n l in
     let len : length t ≡ length l = length-tally slot amount n l in
     let e : at t j ≡ at l j + sumTo n (share slot amount j) = at-tally slot amount n l j h in
-    let one : at (add t (slot n) (amount n)) j ≡ at t j + share slot amount j n = at-add t (slot n) (amount n) j (omega arith) in
+    let one : at (add t (slot n) (amount n)) j ≡ at t j + share slot amount j n = at-more t (slot n) (amount n) j (omega arith) in
     omega arith
 
 -- a table that was empty has at most n times the largest amount

@@ -1,7 +1,6 @@
 -- The bytes of words and of a sheet: how they are written one after the other, and that reading them gives the words again.
 use Prim.Native.Nat.{ℕ, zero, suc, _+_, _*_, _/_, _%_, _≤_, _<_}
 use mathlib.Core.Path.{_≡_, refl, sym, ap, _∙_}
-use mathlib.Core.Bool.{false}
 use mathlib.Core.List.{List, [], _∷_, _++_}
 use native.Mathlib.Nat.{mod-eq-of-lt, div-add-mod, div-div-eq-div-mul, not-suc-le-zero, le-of-suc-le-suc}
 use native.Mathlib.Numerals.{add-one, add-two, add-three}

@@ -12,7 +12,6 @@ use Rattle.text.proofs.WrittenLaws.{written-is, length-written}
 use Rattle.io.specs.Counts.{Counts}
 use Rattle.text.specs.Pieces.{before, fields}
 use Rattle.text.specs.Lines.{lineEnd}
-use Rattle.sheet_records.specs.Sheet.{sizeOf}
 use Rattle.sheet_records.specs.Bytes.{sheetBytes, SheetWritten}
 use Rattle.sheet_records.proofs.BytesLaws.{sheet-length, written-whole}
 use Rattle.sheet_table.specs.Fields.{comma, numberAt, sizesFlaw, recordKey, recordKw}

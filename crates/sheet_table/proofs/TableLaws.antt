@@ -7,7 +7,6 @@ use native.Mathlib.Omega.{arith}
 use lib.Dec.{ltb}
 use lib.ListN.{length}
 use lib.Seq.{length-take-le}
-use borrow.Author.Tests.{le-ltb}
 use Rattle.base.specs.Choice.{pick}
 use Rattle.io.specs.Counts.{Counts}
 use Rattle.text.specs.Written.{written}
@@ -17,7 +16,7 @@ use Rattle.text.proofs.WrittenLaws.{written-none, length-written}
 use Rattle.text.proofs.PutLaws.{put-then}
 use Rattle.sheet_records.specs.Sheet.{interties, holders, count}
 use Rattle.sheet_records.specs.Refusal.{badLength}
-use Rattle.sheet_records.proofs.RefusalLaws.{whole}
+use Rattle.sheet_records.proofs.RefusalLaws.{long-enough}
 use Rattle.sheet_table.specs.Fields.{comma}
 use Rattle.sheet_table.specs.Workers.Steps.{Put}
 use Rattle.sheet_table.specs.Table.{rowsOf, sizesLine, tableOf}
@@ -39,7 +38,7 @@ module _ (sheet : List ℕ) (b : Bool) (is : b ≡ badLength sheet) where
     passes = sym is ∙ f
 
     pub size-is : (n m : ℕ) → n ≡ pick (ltb (length sheet) 12) 0 m → n ≡ m
-    size-is n m e = e ∙ ap (λ (c : Bool). pick c 0 m) (le-ltb (length sheet) 12 (omega (arith, whole sheet (count sheet) passes refl .exact)))
+    size-is n m e = long-enough sheet n m passes e
 
     all : sizesLine sheet ++ rowsOf sheet (count sheet) ≡ tableOf sheet
     unfolding tableOf

@@ -1,5 +1,5 @@
 -- `to_sheet` meets its contract: the first line, then the others, then the bytes (`ConvertLaws`).
-use Rattle.base.proofs.Prelude.{_≤_, sym, _∙_, arith, length, now, needs}
+use Rattle.base.proofs.Prelude.{_≤_, sym, arith, length, now, needs}
 use lib.Seq.{length-take-le}
 use Rattle.text.proofs.PieceLaws.{before-le}
 use Rattle.sheet_table.proofs.ConvertLaws.{first-stops, line-stops, text-converts}

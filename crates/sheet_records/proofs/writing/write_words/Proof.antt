@@ -1,7 +1,7 @@
 -- `writing::write_words` meets its contract: after k turns the first k words are written. The measure is the words still to come.
-use Rattle.base.proofs.Prelude.{_-_, _≤_, _≡_, refl, ap, _∙_, arith, length, length-set, take, now, needs}
+use Rattle.base.proofs.Prelude.{_-_, _≤_, _≡_, refl, ap, _∙_, length, length-set, take, now, needs}
 use lib.Seq.{sets, take-all}
-use Rattle.sheet_records.specs.Bytes.{wordBytes, bytesOf}
+use Rattle.sheet_records.specs.Bytes.{bytesOf}
 use Rattle.sheet_records.proofs.BytesLaws.{words-none, words-turn}
 use Rattle.sheet_records.proofs.writing.write_words.Statement.{statement}
 use Rattle.sheet_records.proofs.writing.write_words.Tie as tie
