@@ -6,8 +6,8 @@ use libc::STDERR_FILENO;
 use libc::STDIN_FILENO;
 use libc::STDOUT_FILENO;
 use sheet_table::Converted;
-use sheet_table::MOST_SHEET_BYTES;
 use sheet_table::TABLE_BYTES;
+use sheet_table::faults;
 
 // The longest text that is read.
 const MOST_TEXT_BYTES: usize = 131_072;
@@ -16,6 +16,24 @@ const MOST_TEXT_BYTES: usize = 131_072;
 const TEXT_ROOM: usize = MOST_TEXT_BYTES + 1;
 
 const SHEET_ROOM: usize = MOST_SHEET_BYTES + 1;
+
+// The columns of the first line, counted from 1.
+const INTERTIES: usize = 1;
+
+const HOLDERS: usize = 2;
+
+// The columns of a record.
+const KIND: usize = 1;
+
+const HOLDER: usize = 2;
+
+const INTERTIE: usize = 3;
+
+const RANK: usize = 4;
+
+const YEARS: usize = 5;
+
+const KW: usize = 6;
 
 // Converts or prints, by the number of arguments.
 fn main() {
@@ -77,23 +95,23 @@ fn say_fault(converted: Converted) {
     io::print_decimal(STDERR_FILENO, column as u64);
     if line == 1 {
         say_size(column);
-        say_reason(fault, 2 < column);
+        say_reason(fault, HOLDERS < column);
         return;
     }
     say_field(column);
-    if (fault == 1) & (column == 1) {
+    if (fault == faults::NOT_NUMBER) & (column == KIND) {
         say(b": not a kind\n");
         return;
     }
-    say_reason(fault, 6 < column);
+    say_reason(fault, KW < column);
 }
 
 // A column of the first line.
 fn say_size(column: usize) {
-    if column == 1 {
+    if column == INTERTIES {
         say(b" (interties)");
     }
-    if column == 2 {
+    if column == HOLDERS {
         say(b" (holders)");
     }
 }
@@ -101,26 +119,26 @@ fn say_size(column: usize) {
 // A column of a record.
 fn say_field(column: usize) {
     match column {
-        1 => say(b" (kind)"),
-        2 => say(b" (holder)"),
-        3 => say(b" (intertie)"),
-        4 => say(b" (rank)"),
-        5 => say(b" (years)"),
-        6 => say(b" (kw)"),
+        KIND => say(b" (kind)"),
+        HOLDER => say(b" (holder)"),
+        INTERTIE => say(b" (intertie)"),
+        RANK => say(b" (rank)"),
+        YEARS => say(b" (years)"),
+        KW => say(b" (kw)"),
         _ => {}
     }
 }
 
-// What a fault means; of number 3, whether a field is past the last column.
+// What a fault means; of wrong fields, whether a field is past the last column.
 fn say_reason(fault: u32, past: bool) {
     if past {
         say(b": too many fields\n");
         return;
     }
     match fault {
-        1 => say(b": not a number\n"),
-        2 => say(b": too large\n"),
-        3 => say(b": missing\n"),
+        faults::NOT_NUMBER => say(b": not a number\n"),
+        faults::TOO_LARGE => say(b": too large\n"),
+        faults::WRONG_FIELDS => say(b": missing\n"),
         _ => say(b": over 1,024 records\n"),
     }
 }

@@ -113,7 +113,7 @@ fn compare(root: &Path) -> Result<Findings, String> {
         &expected(&RUST, &library, &functions)?,
         &declarations::of_rust(&declarations),
     );
-    let numbers = library.constant("posting/src/lib.rt", "NUMBERS")?;
+    let numbers = library.constant("posting/src/rows.rt", "NUMBERS")?;
     findings.note(
         declarations.contains(&format!("POSTED_NUMBERS: usize = {numbers};")),
         || format!("{DECLARATIONS}: POSTED_NUMBERS is not {numbers}"),

@@ -20,19 +20,20 @@ const STAGES: &str = "base/src/stages.rt";
 const ENCODING: &str = "base/src/encoding.rt";
 const LAYOUT: &str = "state/src/layout.rt";
 const KEY: &str = "sheet_records/src/key.rt";
+const POSTING: &str = "posting/src/rows.rt";
 
 /// Homes of which the header has every number.
 const WHOLE: [&str; 5] = [REFUSALS, KINDS, STAGES, ENCODING, LAYOUT];
 
 /// The header's constant, its home and its name there.
-const OF_THE_LIBRARY: [(&str, &str, &str); 81] = [
+const OF_THE_LIBRARY: [(&str, &str, &str); 91] = [
     ("VERSION", "zankurbe/src/lib.rt", "VERSION"),
     ("STATE_WORDS", LIMITS, "STATE_WORDS"),
     ("GRANTS_WORDS", LIMITS, "GRANTS_WORDS"),
     ("SHEET_HEADER_BYTES", LIMITS, "SHEET_HEADER_BYTES"),
     ("RECORD_BYTES", LIMITS, "RECORD_BYTES"),
     ("MOST_SHEET_BYTES", LIMITS, "MOST_SHEET_BYTES"),
-    ("POST_NUMBERS", "posting/src/lib.rt", "NUMBERS"),
+    ("POST_NUMBERS", POSTING, "NUMBERS"),
     ("CALL_WORDS", ENCODING, "CALL_WORDS"),
     ("ANSWER_WORDS", ENCODING, "ANSWER_WORDS"),
     ("MOST_INTERTIES", LIMITS, "MOST_INTERTIES"),
@@ -87,6 +88,16 @@ const OF_THE_LIBRARY: [(&str, &str, &str); 81] = [
     ("STAGE_FIRST_REQUESTS", STAGES, "FIRST_REQUESTS"),
     ("STAGE_SECOND_REQUESTS", STAGES, "SECOND_REQUESTS"),
     ("STAGE_OPEN", STAGES, "OPEN"),
+    ("POST_LIMIT", POSTING, "LIMIT"),
+    ("POST_OUTSIDE", POSTING, "OUTSIDE"),
+    ("POST_EXISTING", POSTING, "EXISTING"),
+    ("POST_PRE_RA", POSTING, "PRE_RA"),
+    ("POST_NEW_USE", POSTING, "NEW_USE"),
+    ("POST_UNASSIGNED", POSTING, "UNASSIGNED"),
+    ("POST_LOAD_SHARE", POSTING, "LOAD_SHARE"),
+    ("POST_LOAD_SHARE_QUANTITY", POSTING, "LOAD_SHARE_QUANTITY"),
+    ("POST_RESERVED", POSTING, "RESERVED"),
+    ("POST_STEP_5_SHARE", POSTING, "STEP_5_SHARE"),
     ("CALL_TRADE", ENCODING, "TRADE"),
     ("CALL_REQUEST", ENCODING, "REQUEST"),
     ("CALL_CLOSE", ENCODING, "CLOSE"),
