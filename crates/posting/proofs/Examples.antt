@@ -1,29 +1,31 @@
 -- Case i (docs/RULES.md, "Examples"): what `post` prints of its sheet, for any numbers that stood in the ten rows before.
-use Prim.Native.Nat.{ℕ, _+_, _-_, _*_, _/_, _%_}
+use Prim.Native.Nat.{ℕ, _+_, _-_, _*_, _/_, _%_, _≤_, _<_, min}
 use mathlib.Core.Path.{_≡_, refl, sym, ap, _∙_}
 use mathlib.Core.List.{List, [], _∷_, _++_, map}
 use native.Mathlib.Omega.{arith}
+use lib.Dec.{eqb}
 use lib.ListN.{length}
 use Rattle.base.specs.Sums.{sumTo, allTo}
 use Rattle.base.specs.Words.{at, tab, fill}
 use Rattle.base.specs.Answers.{granted}
+use Rattle.base.proofs.ChoiceLaws.{pick-by}
+use Rattle.base.proofs.SumLaws.{sumTo-zeros}
 use Rattle.base.proofs.WordLaws.{length-tab, at-tab, tab-at}
 use Rattle.state.specs.Layout.{place}
-use Rattle.share_out.specs.Pass.{isOpen, openWeights, byWeight, oneEach, unweighted, passKw, passTotal, passGrants}
-use Rattle.share_out.specs.Rule.{runPasses, shared, unfitNumbers, sharedAnswer, shareOut}
-use Rattle.intertie_shares.specs.Rule.{amongHolders}
 use Rattle.sheet_records.specs.declared.cursor.Record.{Record}
 use Rattle.sheet_records.specs.Sheet.{wordAt, sumOver, limit, outside, loadShare, existing, preRa, newUseKw, newUseIntertie}
 use Rattle.sheet_records.specs.Sheet as Sheet
 use Rattle.sheet_records.specs.Refusal.{badLength, badSizes, recordStands, recordsStand, oneLimitEach, oneLoadShareEach, noRankTwice, rulesHold, limitsHold, sheetRefusal}
-use Rattle.step_4b.specs.NewUse.{nextRank, afterRanks, newUse}
+use Rattle.step_4b.proofs.Promise.{askedAt, askedOn}
+use Rattle.step_4b.proofs.Promise as NewUse
 use Rattle.step_5.specs.Shares.{step5Shares}
 use Rattle.step_5.proofs.Examples as Step5
 use Rattle.steps.specs.Inputs.{Inputs, ofSheet}
 use Rattle.steps.specs.Step2.{available, availableTotal, allLoadShares, loadShareQuantity}
-use Rattle.steps.specs.Step4a.{existingOn, leftByStep3, preRaClaim, preRaShared, preRaGranted, leftByStep4a}
-use Rattle.steps.specs.Step4b.{allowance, cover, newUseKept, newUseClaim, newUseShared, newUseGranted}
+use Rattle.steps.specs.Step4a.{existingOn, preRaClaim, preRaGranted}
+use Rattle.steps.specs.Step4b.{allowance, cover, newUseKept, newUseClaim, newUseGranted}
 use Rattle.steps.specs.Step5to7.{heldOn, held, reservedOn, step5Share, unassigned}
+use Rattle.steps.proofs.BoundLaws.{pre-ra-claimed, new-use-claimed}
 use Rattle.state_rows.specs.Rows.{fillRow}
 use Rattle.opening.proofs.WriteLaws.{row-same}
 use Rattle.posting.specs.Post.{preRaOn, newUseOn, intertieLines, holderLines, Posted, posted}
@@ -90,34 +92,76 @@ existing-i : tab (y .interties) (existingOn y) ≡ 30_000 ∷ []
 unfolding bytesOf sheetOf sheetI sumTo tab wordAt sumOver existing existingOn
 existing-i = refl
 
--- nobody has Pre-RA or New Use commitments
-pre-ra-none : preRaShared y 0 .output ≡ 0 ∷ 0 ∷ 0 ∷ []
-unfolding bytesOf sheetOf sheetI sumTo allTo tab fill isOpen openWeights byWeight oneEach unweighted passKw passTotal passGrants runPasses shared unfitNumbers sharedAnswer shareOut amongHolders wordAt sumOver limit outside loadShare existing preRa available existingOn leftByStep3 preRaClaim preRaShared
-pre-ra-none = refl
+-- nobody has Pre-RA or New Use commitments: nothing is claimed, and a share-out grants no more than is claimed
+holders-i : y .holders ≡ 3
+unfolding bytesOf sheetOf sheetI wordAt
+holders-i = refl
 
-new-use-none : newUseShared y 0 .output ≡ 0 ∷ 0 ∷ 0 ∷ []
-unfolding bytesOf sheetOf sheetI sumTo allTo tab fill isOpen openWeights byWeight oneEach unweighted passKw passTotal passGrants runPasses shared unfitNumbers sharedAnswer shareOut amongHolders wordAt sumOver limit outside loadShare existing preRa newUseKw newUseIntertie nextRank afterRanks newUse available availableTotal allLoadShares loadShareQuantity existingOn leftByStep3 preRaClaim preRaShared preRaGranted leftByStep4a allowance cover newUseKept newUseClaim newUseShared
-new-use-none = refl
+no-pre-ra : (h : ℕ) → y .preRa h 0 ≡ 0
+unfolding bytesOf sheetOf sheetI sumTo wordAt sumOver preRa
+no-pre-ra h = refl
 
-with-none : (F : List ℕ → List ℕ → List ℕ) →
-    F (preRaShared y 0 .output) (newUseShared y 0 .output) ≡ F (0 ∷ 0 ∷ 0 ∷ []) (0 ∷ 0 ∷ 0 ∷ [])
-with-none F = rw (pre-ra-none, new-use-none) refl
+no-new-use : (h r : ℕ) → y .newUseKw h r ≡ 0
+unfolding bytesOf sheetOf sheetI sumTo wordAt sumOver newUseKw
+no-new-use h r = refl
+
+pre-ra-none : (h : ℕ) → h < 3 → preRaGranted y h 0 ≡ 0
+unfolding preRaClaim
+pre-ra-none h l = omega (arith, pre-ra-claimed y h 0 (omega (arith, holders-i)), no-pre-ra h)
+
+asked-none : (h r : ℕ) → r ≤ 256 → askedOn (tab 256 (y .newUseKw h)) (tab 256 (y .newUseIntertie h)) r 0 ≡ 0
+asked-none h r few =
+    sumTo-zeros r (askedAt (tab 256 (y .newUseKw h)) (tab 256 (y .newUseIntertie h)) 0)
+    (λ k l.
+    let none : at (tab 256 (y .newUseKw h)) k ≡ 0 = at-tab 256 (y .newUseKw h) k (omega arith) ∙ no-new-use h k in
+    pick-by (λ (n : ℕ). n ≡ 0) (eqb (at (tab 256 (y .newUseIntertie h)) k) 0) (at (tab 256 (y .newUseKw h)) k) 0 (λ _. none) (λ _. refl))
+
+new-use-none : (h : ℕ) → h < 3 → newUseGranted y h 0 ≡ 0
+unfolding newUseClaim newUseKept
+new-use-none h l =
+    let kw : List ℕ = tab 256 (y .newUseKw h) in
+    let places : List ℕ = tab 256 (y .newUseIntertie h) in
+    let p = NewUse.promise kw places (allowance y h) (cover y h) 48 in
+    omega (
+      arith,
+      new-use-claimed y h 0 (omega (arith, holders-i)),
+      p .within 0,
+      p .falls 0,
+      asked-none h (min (length kw) (length places)) (omega (arith, length-tab 256 (y .newUseKw h))),
+    )
+
+with-none : (F : ℕ → ℕ → ℕ → ℕ → ℕ → ℕ → List ℕ) →
+    F (preRaGranted y 0 0) (preRaGranted y 1 0) (preRaGranted y 2 0) (newUseGranted y 0 0) (newUseGranted y 1 0) (newUseGranted y 2 0)
+    ≡ F 0 0 0 0 0 0
+with-none F =
+    rw (
+      pre-ra-none 0 (omega arith),
+      pre-ra-none 1 (omega arith),
+      pre-ra-none 2 (omega arith),
+      new-use-none 0 (omega arith),
+      new-use-none 1 (omega arith),
+      new-use-none 2 (omega arith),
+    ) refl
 
 pre-ra-i : tab (y .interties) (preRaOn y) ≡ 0 ∷ []
-unfolding bytesOf sheetOf sheetI sumTo tab wordAt preRaGranted preRaOn
-pre-ra-i = with-none (λ P N. sumTo 3 (λ h. at P h) ∷ [])
+unfolding bytesOf sheetOf sheetI sumTo tab wordAt preRaOn
+pre-ra-i = with-none (λ p q r a b c. (0 + p + q + r) ∷ [])
 
 new-use-i : tab (y .interties) (newUseOn y) ≡ 0 ∷ []
-unfolding bytesOf sheetOf sheetI sumTo tab wordAt newUseGranted newUseOn
-new-use-i = with-none (λ P N. sumTo 3 (λ h. at N h) ∷ [])
+unfolding bytesOf sheetOf sheetI sumTo tab wordAt newUseOn
+new-use-i = with-none (λ p q r a b c. (0 + a + b + c) ∷ [])
 
 unassigned-i : tab (y .interties) (unassigned y) ≡ 70_000 ∷ []
-unfolding bytesOf sheetOf sheetI sumTo tab wordAt sumOver limit outside existing available preRaGranted newUseGranted heldOn reservedOn unassigned
-unassigned-i = with-none (λ P N. (100_000 - sumTo 3 (λ h. existing sheetI h 0 + at P h + at N h)) ∷ [])
+unfolding bytesOf sheetOf sheetI sumTo tab wordAt sumOver limit outside existing available heldOn reservedOn unassigned
+unassigned-i =
+    with-none (λ p q r a b c.
+    (100_000 - (0 + (existing sheetI 0 0 + p + a) + (existing sheetI 1 0 + q + b) + (existing sheetI 2 0 + r + c))) ∷ [])
 
 held-i : tab (y .holders) (held y) ≡ 0 ∷ 0 ∷ 30_000 ∷ []
-unfolding bytesOf sheetOf sheetI sumTo tab wordAt sumOver existing preRaGranted newUseGranted heldOn held
-held-i = with-none (λ P N. tab 3 (λ h. 0 + (existing sheetI h 0 + at P h + at N h)))
+unfolding bytesOf sheetOf sheetI sumTo tab wordAt sumOver existing heldOn held
+held-i =
+    with-none (λ p q r a b c.
+    (0 + (existing sheetI 0 0 + p + a)) ∷ (0 + (existing sheetI 1 0 + q + b)) ∷ (0 + (existing sheetI 2 0 + r + c)) ∷ [])
 
 shares-i : tab (y .holders) (step5Share y) ≡ 43_750 ∷ 26_250 ∷ 0 ∷ []
 unfolding bytesOf sheetOf sheetI tab wordAt step5Share
