@@ -11,3 +11,7 @@ pub use borrow.Author.Needs.{needs}
 unfoldable pub use Rattle.base.specs.Choice.{pick}
 unfoldable pub use Rattle.base.specs.Sums.{sumTo, allTo}
 unfoldable pub use Rattle.base.specs.Words.{at, tab, fill}
+
+-- the value x of type A, said with its type: `the tie.Start (search needs)` is the function's entry, found by its type
+abbrev pub the : (A : Type 0) → A → A
+the A x = x

@@ -1,5 +1,5 @@
 -- `carry` meets its contract: refused with its number, or carried on (`CarryLaws`).
-use Rattle.base.proofs.Prelude.{sym, _∙_, arith, needs}
+use Rattle.base.proofs.Prelude.{the, sym, _∙_, arith, needs}
 use Rattle.carrying.proofs.CarryLaws.{answers-refused, number-early, number-sizes}
 use Rattle.carrying.proofs.carry.Statement.{statement}
 use Rattle.carrying.proofs.carry.Tie as tie
@@ -22,9 +22,7 @@ carry-on-requires c κs =
     (sym (after-early-refusal .early-refusal .ensures) ∙ else1 .if1 .left, sym (after-sizes-differ .sizes-differ .ensures) ∙ c .before .if2 .left)
 
 returns-3 : tie.Need-returns-3
-returns-3 c =
-    let after-carry-on : tie.After-carry-on = search needs in
-    after-carry-on .carry-on .ensures
+returns-3 c = the tie.After-carry-on (search needs) .carry-on .ensures
 
 pub carry-spec : {M : Type 1} → statement M
 carry-spec =

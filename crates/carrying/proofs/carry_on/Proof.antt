@@ -1,14 +1,13 @@
 -- `carry_on` meets its contract: refused with 14, or written (`CarryLaws`).
-use Rattle.base.proofs.Prelude.{arith, now, needs}
+use Rattle.base.proofs.Prelude.{the, arith, now, needs}
 use Rattle.carrying.proofs.CarryLaws.{state-stands, answers-refused, draft-unfit, draft-few, draft-room, draft-written}
 use Rattle.carrying.proofs.carry_on.Statement.{statement}
 use Rattle.carrying.proofs.carry_on.Tie as tie
 
 does-not-fit-requires : tie.Need-does-not-fit-requires
 does-not-fit-requires c κs =
-    let start : tie.Start = search needs in let after-word2 : tie.After-word2 = search needs in
-    let o = state-stands _ _ (start .pre .0) in
-    (omega (arith, o .holders-most, after-word2 .word2 .ensures), c .before .draft .ensures .0)
+    let o = state-stands _ _ (the tie.Start (search needs) .pre .0) in
+    (omega (arith, o .holders-most, the tie.After-word2 (search needs) .word2 .ensures), c .before .draft .ensures .0)
 
 returns : tie.Need-returns
 returns c =
@@ -29,9 +28,6 @@ write-draft-requires c κs =
       draft-room (now (a .sheet)) (now (a .state)) (now (a .output)) (start .pre .0) (start .pre .1) _ _ _ _ (after-draft .draft .ensures .1) _ (after-word2 .word2 .ensures) _ (after-does-not-fit .does-not-fit .ensures) (else1 .if1 .left),
     )
 
-abbrev the : (A : Type 0) → A → A
-the A x = x
-
 returns-2 : tie.Need-returns-2
 returns-2 c =
     let a = the tie.Start (search needs) .args in let p = the tie.Start (search needs) .pre in
@@ -43,5 +39,5 @@ returns-2 c =
 pub carry-on-spec : {M : Type 1} → statement M
 carry-on-spec =
     tie.close (tie.spec (λ c κs. search needs) (λ c κs. search needs) (λ c κs. search needs) (λ c. search needs)
-    does-not-fit-requires (λ c κs. search needs) returns (λ c. search needs) (λ c. search needs) write-draft-requires (λ c κs. search needs)
-    (λ c. search needs) returns-2)
+    does-not-fit-requires (λ c κs. search needs) returns (λ c. search needs) (λ c. search needs) write-draft-requires
+    (λ c κs. search needs) (λ c. search needs) returns-2)

@@ -1,5 +1,5 @@
 -- `draft` meets its contract: the records that go on, then the locks.
-use Rattle.base.proofs.Prelude.{needs, now}
+use Rattle.base.proofs.Prelude.{the, needs, now}
 use Rattle.carrying.specs.Lines.{nextLines}
 use Rattle.carrying.proofs.CarryLaws.{length-stands, state-stands, few-records}
 use Rattle.carrying.proofs.DraftLaws.{kept-bounded}
@@ -20,8 +20,7 @@ add-locks-requires c κs =
 returns : tie.Need-returns
 unfolding nextLines
 returns c =
-    let after-keep-records : tie.After-keep-records = search needs in
-    (c .add-locks .ensures .0, c .add-locks .ensures .1 _ (after-keep-records .keep-records .ensures))
+    (c .add-locks .ensures .0, c .add-locks .ensures .1 _ (the tie.After-keep-records (search needs) .keep-records .ensures))
 
 pub draft-spec : {M : Type 1} → statement M
 draft-spec =

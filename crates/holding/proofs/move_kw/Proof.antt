@@ -1,5 +1,5 @@
 -- `move_kw` meets its contract: a refusal leaves the state; else it stores what both holders have placed.
-use Rattle.base.proofs.Prelude.{sym, _∙_, arith, now, needs}
+use Rattle.base.proofs.Prelude.{the, sym, _∙_, arith, now, needs}
 use Rattle.call.proofs.LadderLaws.{answers-refused, answers-done}
 use Rattle.call.proofs.StoreLaws.{carried}
 use Rattle.state.specs.Layout.{placedAt}
@@ -17,29 +17,26 @@ done c = move-done _ _ _ _ _ (sym (c .before .move-refusal .ensures) ∙ c .if1 
 returns : tie.Need-returns
 unfolding move
 returns c =
-    let after-move-refusal : tie.After-move-refusal = search needs in
-    answers-refused _ _ _ _ _ (after-move-refusal .move-refusal .ensures) (c .before .if1 .taken) (c .refused .ensures)
+    answers-refused _ _ _ _ _ (the tie.After-move-refusal (search needs) .move-refusal .ensures) (c .before .if1 .taken) (c .refused .ensures)
 
 sub-store-pair : tie.Need-sub-store-pair
 sub-store-pair c =
-    let else1 : tie.Else1 = search needs in let after-pair-word : tie.After-pair-word = search needs in
-    omega (arith, done else1 .enough, after-pair-word .pair-word .ensures)
+    omega (arith, done (the tie.Else1 (search needs)) .enough, the tie.After-pair-word (search needs) .pair-word .ensures)
 
 add-store-pair : tie.Need-add-store-pair
 add-store-pair c =
-    let after-pair-word2 : tie.After-pair-word2 = search needs in let else1 : tie.Else1 = search needs in
-    omega (arith, move-fits _ _ _ _ _ (done else1), after-pair-word2 .pair-word2 .ensures)
+    omega (arith, move-fits _ _ _ _ _ (done (the tie.Else1 (search needs))), the tie.After-pair-word2 (search needs) .pair-word2 .ensures)
 
 returns-2 : tie.Need-returns-2
 unfolding move moveState
 returns-2 c =
     let after-store-pair2 : tie.After-store-pair2 = search needs in
     let after-store-pair : tie.After-store-pair = search needs in
-    let after-pair-word2 : tie.After-pair-word2 = search needs in let else1 : tie.Else1 = search needs in
+    let after-pair-word2 : tie.After-pair-word2 = search needs in
     let after-move-refusal : tie.After-move-refusal = search needs in
     let after-pair-word : tie.After-pair-word = search needs in
-    let start : tie.Start = search needs in let a = start .args in
-    answers-done _ _ _ _ _ _ (after-move-refusal .move-refusal .ensures) (else1 .if1 .left) (c .granted .ensures)
+    let a = the tie.Start (search needs) .args in
+    answers-done _ _ _ _ _ _ (after-move-refusal .move-refusal .ensures) (the tie.Else1 (search needs) .if1 .left) (c .granted .ensures)
     (carried (now (a .state)) (placedAt (a .giver) (a .intertie)) (placedAt (a .taker) (a .intertie)) (a .kw)
     (after-pair-word .pair-word .ensures) (after-pair-word2 .pair-word2 .ensures) (after-store-pair .store-pair .ensures) (after-store-pair2 .store-pair2 .ensures))
 

@@ -1,5 +1,5 @@
 -- `past_three_quarters` meets its contract: 48 locked words and the kW fit 64 bits, four times over.
-use Rattle.base.proofs.Prelude.{_≤_, arith, now, needs}
+use Rattle.base.proofs.Prelude.{the, _≤_, arith, now, needs}
 use Rattle.state.specs.Layout.{interties, lockedAt, lockedOf}
 use Rattle.base.proofs.SumLaws.{sumTo-bound}
 use Rattle.holding.proofs.past_three_quarters.Statement.{statement}
@@ -15,9 +15,7 @@ locked-fits c =
     omega (arith, most, c .of-holder .ensures, start .pre .0)
 
 returns : tie.Need-returns
-returns c =
-    let after-word : tie.After-word = search needs in
-    rw (after-word .word .ensures, c .before .word2 .ensures, c .of-holder .ensures)
+returns c = rw (the tie.After-word (search needs) .word .ensures, c .before .word2 .ensures, c .of-holder .ensures)
 
 pub past-three-quarters-spec : {M : Type 1} → statement M
 past-three-quarters-spec =

@@ -1,12 +1,9 @@
 -- `clear_pairs` meets its contract: each table is stored from zeros (`StoreLaws`).
-use Rattle.base.proofs.Prelude.{_≡_, ap, _∙_, arith, length, now, needs}
+use Rattle.base.proofs.Prelude.{the, _≡_, ap, _∙_, arith, length, now, needs}
 use Rattle.state_rows.specs.Rows.{fillPairs}
 use Rattle.opened_state.proofs.StoreLaws.{cleared-pairs}
 use Rattle.opened_state.proofs.clear_pairs.Statement.{statement}
 use Rattle.opened_state.proofs.clear_pairs.Tie as tie
-
-abbrev the : (A : Type 0) → A → A
-the A x = x
 
 returns : tie.Need-returns
 returns c =

@@ -1,14 +1,11 @@
 -- `write_figures` meets its contract: each row is stored whole (`StoreLaws`).
-use Rattle.base.proofs.Prelude.{_≤_, _≡_, ap, _∙_, arith, length, now, needs, at}
+use Rattle.base.proofs.Prelude.{the, _≤_, _≡_, ap, _∙_, arith, length, now, needs, at}
 use Rattle.state_rows.specs.Rows.{fillRow}
 use Rattle.sheet_reading.specs.Tables.{outsideSlot, loadShareSlot}
 use Rattle.opened_state.specs.Write.{low, rowLow}
 use Rattle.opened_state.proofs.StoreLaws.{stored-row}
 use Rattle.opened_state.proofs.write_figures.Statement.{statement}
 use Rattle.opened_state.proofs.write_figures.Tie as tie
-
-abbrev the : (A : Type 0) → A → A
-the A x = x
 
 write-slots-requires : tie.Need-write-slots-requires
 write-slots-requires c κs = (

@@ -1,5 +1,5 @@
 -- `write_state` meets its contract: nothing where the sizes don't fit, else the groups in the order of their rows.
-use Rattle.base.proofs.Prelude.{_≡_, sym, ap, _∙_, true, length, now, needs}
+use Rattle.base.proofs.Prelude.{the, _≡_, sym, ap, _∙_, true, length, now, needs}
 use borrow.Author.Tests.{not-true, not-false}
 use Rattle.base.proofs.ChoiceLaws.{pick-true, pick-false}
 use Rattle.opened_state.specs.Workers.Sizes.{Sizes}
@@ -7,9 +7,6 @@ use Rattle.opened_state.specs.Write.{fitSizes, figuresWritten, reservedW
 use Rattle.opened_state.proofs.StoreLaws.{fit-sizes, sizes-kept}
 use Rattle.opened_state.proofs.write_state.Statement.{statement}
 use Rattle.opened_state.proofs.write_state.Tie as tie
-
-abbrev the : (A : Type 0) → A → A
-the A x = x
 
 -- what the test leaves
 fits : (c : tie.Else1) →

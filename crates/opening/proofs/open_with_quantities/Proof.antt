@@ -1,14 +1,11 @@
 -- `open_with_quantities` meets its contract: refused as the sheet is or with 5, or opened (`TableOpening`).
-use Rattle.base.proofs.Prelude.{sym, ap, _∙_, now, needs}
+use Rattle.base.proofs.Prelude.{the, sym, ap, _∙_, now, needs}
 use mathlib.Core.Logic.{_≢_}
 use Rattle.sheet_records.specs.Refusal.{sheetRefusal}
 use Rattle.opening.specs.Open.{Outcome}
 use Rattle.opening.proofs.TableOpening.{open-refused, open-short, found-refused, found-short, read-valid, read-opened}
 use Rattle.opening.proofs.open_with_quantities.Statement.{statement}
 use Rattle.opening.proofs.open_with_quantities.Tie as tie
-
-abbrev the : (A : Type 0) → A → A
-the A x = x
 
 returns : tie.Need-returns
 returns c =

@@ -1,5 +1,5 @@
 -- `orderly::is_orderly` meets its contract.
-use Rattle.base.proofs.Prelude.{sym, _∙_, needs}
+use Rattle.base.proofs.Prelude.{the, sym, _∙_, needs}
 use Rattle.orderly.proofs.CheckLaws.{sized, orderly-is, not-orderly}
 use Rattle.orderly.proofs.is_orderly.Statement.{statement}
 use Rattle.orderly.proofs.is_orderly.Tie as tie
@@ -11,15 +11,13 @@ rows-in-order-requires c κs =
 
 returns : tie.Need-returns
 returns c =
-    let start : tie.Start = search needs in let after-sizes-in-range : tie.After-sizes-in-range = search needs in
-    let s = start .args .state .now in
+    let s = the tie.Start (search needs) .args .state .now in
     c .rows-in-order .ensures
-    ∙ orderly-is s (sym (after-sizes-in-range .sizes-in-range .ensures) ∙ c .before .if1 .taken)
+    ∙ orderly-is s (sym (the tie.After-sizes-in-range (search needs) .sizes-in-range .ensures) ∙ c .before .if1 .taken)
 
 returns-2 : tie.Need-returns-2
 returns-2 c =
-    let start : tie.Start = search needs in
-    let s = start .args .state .now in
+    let s = the tie.Start (search needs) .args .state .now in
     sym (not-orderly s (sym (c .before .sizes-in-range .ensures) ∙ c .if1 .left))
 
 pub is-orderly-spec : {M : Type 1} → statement M

@@ -1,5 +1,5 @@
 -- `orderly::state_refusal` meets its contract.
-use Rattle.base.proofs.Prelude.{needs}
+use Rattle.base.proofs.Prelude.{the, needs}
 use borrow.Author.Tests.{le-ltb}
 use Rattle.base.proofs.Rules.{tests}
 use Rattle.state.specs.Orderly.{stateRefusal}
@@ -12,15 +12,11 @@ returns c = search tests
 
 returns-2 : tie.Need-returns-2
 unfolding stateRefusal
-returns-2 c =
-    let else1 : tie.Else1 = search needs in
-    rw (le-ltb _ _ (else1 .if1 .left), ← (c .before .is-orderly .ensures), c .if2 .taken)
+returns-2 c = rw (le-ltb _ _ (the tie.Else1 (search needs) .if1 .left), ← (c .before .is-orderly .ensures), c .if2 .taken)
 
 returns-3 : tie.Need-returns-3
 unfolding stateRefusal
-returns-3 c =
-    let else1 : tie.Else1 = search needs in
-    rw (le-ltb _ _ (else1 .if1 .left), ← (c .before .is-orderly .ensures), c .if2 .left)
+returns-3 c = rw (le-ltb _ _ (the tie.Else1 (search needs) .if1 .left), ← (c .before .is-orderly .ensures), c .if2 .left)
 
 pub state-refusal-spec : {M : Type 1} → statement M
 state-refusal-spec =

@@ -1,5 +1,5 @@
 -- `by_passes` meets its contract: each turn of the outer loop is a pass of the definition (`LoopLaws`).
-use Rattle.base.proofs.Prelude.{_-_, _<_, _≡_, refl, _∙_, arith, length, now, needs}
+use Rattle.base.proofs.Prelude.{the, _-_, _<_, _≡_, refl, _∙_, arith, length, now, needs}
 use Rattle.share_out.specs.Pass.{openWeight, byWeight}
 use Rattle.share_out.specs.Workers.Fit.{Weighed, Raised}
 use Rattle.share_out.proofs.PassLaws.{openWeight-most, byWeight-within}
@@ -25,47 +25,40 @@ abbrev μ-passes : tie.MeasureT-passes
 
 weigh-open-requires : tie.Need-weigh-open-requires Inv-loop μ-loop Inv-passes μ-passes
 weigh-open-requires c κs =
-    let start : tie.Start Inv-loop μ-loop Inv-passes μ-passes = search needs in
-    let p = start .pre in
+    let p = the (tie.Start Inv-loop μ-loop Inv-passes μ-passes) (search needs) .pre in
     record { few = p .sized .few; room = refl; weighed = p .sized .weighed; ranged = p .weighted }
 
 passes-holds : tie.Need-passes-holds Inv-loop μ-loop Inv-passes μ-passes
 passes-holds c =
-    let start : tie.Start Inv-loop μ-loop Inv-passes μ-passes = search needs in
-    let p = start .pre in (
+    let p = the (tie.Start Inv-loop μ-loop Inv-passes μ-passes) (search needs) .pre in (
       rw (p .fresh) (passing-first _ _ _ (p .short)),
       λ some. rw (p .fresh) (c .weigh-open .ensures),
     )
 
 rate-of-requires : tie.Need-rate-of-requires Inv-loop μ-loop Inv-passes μ-passes
 rate-of-requires c κs =
-    let start : tie.Start Inv-loop μ-loop Inv-passes μ-passes = search needs in
-    omega (arith, start .pre .pooled, c .before .passes .inv .0 .running .counted)
+    omega (arith, the (tie.Start Inv-loop μ-loop Inv-passes μ-passes) (search needs) .pre .pooled, c .before .passes .inv .0 .running .counted)
 
 loop-holds : tie.Need-loop-holds Inv-loop μ-loop Inv-passes μ-passes
 loop-holds c = (given-none _ _ _, noted-none _ _ _)
 
 slice-read-unmet : tie.Need-slice-read-unmet Inv-loop μ-loop Inv-passes μ-passes
 slice-read-unmet c =
-    let at-loop : tie.At-loop Inv-loop μ-loop Inv-passes μ-passes = search needs in
     let at-passes : tie.At-passes Inv-loop μ-loop Inv-passes μ-passes = search needs in
-    omega (arith, at-loop .loop .inv .0 .size, at-passes .passes .inv .0 .running .size)
+    omega (arith, the (tie.At-loop Inv-loop μ-loop Inv-passes μ-passes) (search needs) .loop .inv .0 .size, at-passes .passes .inv .0 .running .size)
 
 sub-unmet : tie.Need-sub-unmet Inv-loop μ-loop Inv-passes μ-passes
 sub-unmet c =
     let at-loop : tie.At-loop Inv-loop μ-loop Inv-passes μ-passes = search needs in
-    let at-passes : tie.At-passes Inv-loop μ-loop Inv-passes μ-passes = search needs in
     let in-loop : tie.In-loop Inv-loop μ-loop Inv-passes μ-passes = search needs in
     omega (
       arith,
       given-later _ _ _ _ _ _ (at-loop .loop .inv .0),
-      at-passes .passes .inv .0 .running .within (at-loop .loop .i) (in-loop .loop-test .taken),
+      the (tie.At-passes Inv-loop μ-loop Inv-passes μ-passes) (search needs) .passes .inv .0 .running .within (at-loop .loop .i) (in-loop .loop-test .taken),
     )
 
 array-read-portion : tie.Need-array-read-portion Inv-loop μ-loop Inv-passes μ-passes
-array-read-portion c =
-    let start : tie.Start Inv-loop μ-loop Inv-passes μ-passes = search needs in
-    omega (arith, start .pre .sized .few)
+array-read-portion c = omega (arith, the (tie.Start Inv-loop μ-loop Inv-passes μ-passes) (search needs) .pre .sized .few)
 
 portion-requires : tie.Need-portion-requires Inv-loop μ-loop Inv-passes μ-passes
 portion-requires c κs =
@@ -90,54 +83,47 @@ part c =
     let start : tie.Start Inv-loop μ-loop Inv-passes μ-passes = search needs in
     let at-passes : tie.At-passes Inv-loop μ-loop Inv-passes μ-passes = search needs in
     let at-loop : tie.At-loop Inv-loop μ-loop Inv-passes μ-passes = search needs in
-    let in-loop : tie.In-loop Inv-loop μ-loop Inv-passes μ-passes = search needs in
     part-is (now (start .args .claims)) (now (start .args .weights)) (at-passes .passes .left) (at-passes .passes .grants) (at-loop .loop .grants) (at-passes .passes .open-weights) (at-loop .loop .i) (at-passes .passes .all)
     _ _ (c .before .portion .result) _
-    (in-loop .loop-test .taken) (at-passes .passes .inv .1 (omega arith))
+    (the (tie.In-loop Inv-loop μ-loop Inv-passes μ-passes) (search needs) .loop-test .taken) (at-passes .passes .inv .1 (omega arith))
     (given-later _ _ _ _ _ _ (at-loop .loop .inv .0)) refl (noted-later _ _ _ _ _ _ (at-loop .loop .inv .1))
     (c .before .portion .ensures) (c .smaller .ensures)
 
 slice-read-grants : tie.Need-slice-read-grants Inv-loop μ-loop Inv-passes μ-passes
 slice-read-grants c =
-    let at-loop : tie.At-loop Inv-loop μ-loop Inv-passes μ-passes = search needs in
     let at-passes : tie.At-passes Inv-loop μ-loop Inv-passes μ-passes = search needs in
-    omega (arith, at-loop .loop .inv .0 .size, at-passes .passes .inv .0 .running .size)
+    omega (arith, the (tie.At-loop Inv-loop μ-loop Inv-passes μ-passes) (search needs) .loop .inv .0 .size, at-passes .passes .inv .0 .running .size)
 
 add-grants : tie.Need-add-grants Inv-loop μ-loop Inv-passes μ-passes
 add-grants c =
     let at-loop : tie.At-loop Inv-loop μ-loop Inv-passes μ-passes = search needs in
-    let after-shared-slice-known3 : tie.After-shared-slice-known3 Inv-loop μ-loop Inv-passes μ-passes = search needs in
     omega (
       arith,
       c .slice-known3 .given (at-loop .loop .i),
-      after-shared-slice-known3 .shared-slice-known3 .given (at-loop .loop .i),
+      the (tie.After-shared-slice-known3 Inv-loop μ-loop Inv-passes μ-passes) (search needs) .shared-slice-known3 .given (at-loop .loop .i),
       c .before .smaller .ensures,
     )
 
 slice-write-grants : tie.Need-slice-write-grants Inv-loop μ-loop Inv-passes μ-passes
 slice-write-grants c =
-    let at-loop : tie.At-loop Inv-loop μ-loop Inv-passes μ-passes = search needs in
     let at-passes : tie.At-passes Inv-loop μ-loop Inv-passes μ-passes = search needs in
-    omega (arith, at-loop .loop .inv .0 .size, at-passes .passes .inv .0 .running .size)
+    omega (arith, the (tie.At-loop Inv-loop μ-loop Inv-passes μ-passes) (search needs) .loop .inv .0 .size, at-passes .passes .inv .0 .running .size)
 
 add-given : tie.Need-add-given Inv-loop μ-loop Inv-passes μ-passes
 add-given c =
-    let at-loop : tie.At-loop Inv-loop μ-loop Inv-passes μ-passes = search needs in
     let in-loop : tie.In-loop Inv-loop μ-loop Inv-passes μ-passes = search needs in
     let start : tie.Start Inv-loop μ-loop Inv-passes μ-passes = search needs in
     let at-passes : tie.At-passes Inv-loop μ-loop Inv-passes μ-passes = search needs in
     omega (
       arith,
-      given-most _ _ _ _ _ _ _ (at-loop .loop .inv .0) (in-loop .loop-test .taken) (part (c .before)),
+      given-most _ _ _ _ _ _ _ (the (tie.At-loop Inv-loop μ-loop Inv-passes μ-passes) (search needs) .loop .inv .0) (in-loop .loop-test .taken) (part (c .before)),
       byWeight-within (now (start .args .claims)) (now (start .args .weights)) (at-passes .passes .left) (at-passes .passes .grants),
       at-passes .passes .inv .0 .running .counted,
       start .pre .pooled,
     )
 
 array-read-weight-after : tie.Need-array-read-weight-after Inv-loop μ-loop Inv-passes μ-passes
-array-read-weight-after c =
-    let start : tie.Start Inv-loop μ-loop Inv-passes μ-passes = search needs in
-    omega (arith, start .pre .sized .few)
+array-read-weight-after c = omega (arith, the (tie.Start Inv-loop μ-loop Inv-passes μ-passes) (search needs) .pre .sized .few)
 
 -- what the holder then brings into W is the definition's
 after : (c : tie.After-weight-after Inv-loop μ-loop Inv-passes μ-passes) →
@@ -153,24 +139,20 @@ after c =
     let at-passes : tie.At-passes Inv-loop μ-loop Inv-passes μ-passes = search needs in
     let at-loop : tie.At-loop Inv-loop μ-loop Inv-passes μ-passes = search needs in
     let after-portion : tie.After-portion Inv-loop μ-loop Inv-passes μ-passes = search needs in
-    let in-loop : tie.In-loop Inv-loop μ-loop Inv-passes μ-passes = search needs in
     let after-smaller : tie.After-smaller Inv-loop μ-loop Inv-passes μ-passes = search needs in
     after-is (now (start .args .claims)) (now (start .args .weights)) (at-passes .passes .left) (at-passes .passes .grants) (at-loop .loop .grants) (at-passes .passes .open-weights) (at-loop .loop .i) (at-passes .passes .all)
     _ _ (after-portion .portion .result) _ _
-    (in-loop .loop-test .taken) (at-passes .passes .inv .1 (omega arith))
+    (the (tie.In-loop Inv-loop μ-loop Inv-passes μ-passes) (search needs) .loop-test .taken) (at-passes .passes .inv .1 (omega arith))
     (given-later _ _ _ _ _ _ (at-loop .loop .inv .0)) refl (noted-later _ _ _ _ _ _ (at-loop .loop .inv .1))
     (after-portion .portion .ensures) (after-smaller .smaller .ensures) (c .weight-after .ensures)
 
 array-write-open-weights : tie.Need-array-write-open-weights Inv-loop μ-loop Inv-passes μ-passes
-array-write-open-weights c =
-    let start : tie.Start Inv-loop μ-loop Inv-passes μ-passes = search needs in
-    omega (arith, start .pre .sized .few)
+array-write-open-weights c = omega (arith, the (tie.Start Inv-loop μ-loop Inv-passes μ-passes) (search needs) .pre .sized .few)
 
 add-still-open : tie.Need-add-still-open Inv-loop μ-loop Inv-passes μ-passes
 add-still-open c =
     let at-loop : tie.At-loop Inv-loop μ-loop Inv-passes μ-passes = search needs in
     let at-passes : tie.At-passes Inv-loop μ-loop Inv-passes μ-passes = search needs in
-    let in-loop : tie.In-loop Inv-loop μ-loop Inv-passes μ-passes = search needs in
     let start : tie.Start Inv-loop μ-loop Inv-passes μ-passes = search needs in let a = start .args in
     let p = start .pre in
     omega (
@@ -178,7 +160,7 @@ add-still-open c =
       p .sized .few,
       noted-most _ _ _ 100000000 _ _ (at-loop .loop .i) _
           (λ j l. openWeight-most (now (a .claims)) (now (a .weights)) 100000000 (weighted (now (a .claims)) (now (a .weights)) (at-passes .passes .left) (at-passes .passes .grants)) j (p .weighted j l))
-          (at-loop .loop .inv .1) (in-loop .loop-test .taken) (after (c)),
+          (at-loop .loop .inv .1) (the (tie.In-loop Inv-loop μ-loop Inv-passes μ-passes) (search needs) .loop-test .taken) (after (c)),
     )
 
 loop-again : tie.Need-loop-again Inv-loop μ-loop Inv-passes μ-passes
@@ -218,11 +200,10 @@ ended c =
 complete-requires : tie.Need-complete-requires Inv-loop μ-loop Inv-passes μ-passes
 complete-requires c κs =
     let start : tie.Start Inv-loop μ-loop Inv-passes μ-passes = search needs in
-    let at-loop : tie.At-loop Inv-loop μ-loop Inv-passes μ-passes = search needs in
     let at-passes : tie.At-passes Inv-loop μ-loop Inv-passes μ-passes = search needs in
     let after-loop : tie.After-loop Inv-loop μ-loop Inv-passes μ-passes = search needs in
     serving (now (start .args .claims)) (now (start .args .weights)) _ _ _ (start .pre .sized .few)
-    (at-loop .loop .inv .0 .size ∙ at-passes .passes .inv .0 .running .size) (ended after-loop)
+    (the (tie.At-loop Inv-loop μ-loop Inv-passes μ-passes) (search needs) .loop .inv .0 .size ∙ at-passes .passes .inv .0 .running .size) (ended after-loop)
 
 -- the turn is a pass
 pass : (c : tie.After-complete Inv-loop μ-loop Inv-passes μ-passes) →
@@ -253,9 +234,8 @@ sub-left c =
 
 add-made : tie.Need-add-made Inv-loop μ-loop Inv-passes μ-passes
 add-made c =
-    let at-passes : tie.At-passes Inv-loop μ-loop Inv-passes μ-passes = search needs in
     let start : tie.Start Inv-loop μ-loop Inv-passes μ-passes = search needs in
-    omega (arith, at-passes .passes .inv .0 .running .counted, start .pre .pooled)
+    omega (arith, the (tie.At-passes Inv-loop μ-loop Inv-passes μ-passes) (search needs) .passes .inv .0 .running .counted, start .pre .pooled)
 
 passes-less : tie.Need-passes-less Inv-loop μ-loop Inv-passes μ-passes
 passes-less c =
@@ -283,8 +263,7 @@ passes-again c =
 
 same-length : tie.Need-same-length Inv-loop μ-loop Inv-passes μ-passes
 same-length c =
-    let start : tie.Start Inv-loop μ-loop Inv-passes μ-passes = search needs in
-    omega (arith, c .before .passes .inv .0 .running .size, start .pre .sized .granted)
+    omega (arith, c .before .passes .inv .0 .running .size, the (tie.Start Inv-loop μ-loop Inv-passes μ-passes) (search needs) .pre .sized .granted)
 
 returns : tie.Need-returns Inv-loop μ-loop Inv-passes μ-passes
 returns c = passing-last _ _ _ _ _ _ (c .before .passes .inv .0) (c .if1 .taken)

@@ -1,5 +1,5 @@
 -- `claim_bits` meets its contract: after i turns no claim of the first i is above the bits.
-use Rattle.base.proofs.Prelude.{_-_, _≤_, refl, arith, length, now, needs, at}
+use Rattle.base.proofs.Prelude.{the, _-_, _≤_, refl, arith, length, now, needs, at}
 use Rattle.share_out.specs.Workers.Fit.{Covered}
 use Rattle.share_out.proofs.NumberLaws.{covered-none, covered-more}
 use Rattle.share_out.proofs.claim_bits.Statement.{statement}
@@ -16,10 +16,8 @@ loop-holds c = (search needs, covered-none _)
 
 loop-again : tie.Need-loop-again Inv-loop μ-loop
 loop-again c =
-    let at-loop : tie.At-loop Inv-loop μ-loop = search needs in
-    let start : tie.Start Inv-loop μ-loop = search needs in
-    let l = at-loop .loop in
-    (search needs, covered-more (at (now (start .args .claims))) (l .i) (l .bits) _ (l .inv .1) refl)
+    let l = the (tie.At-loop Inv-loop μ-loop) (search needs) .loop in
+    (search needs, covered-more (at (now (the (tie.Start Inv-loop μ-loop) (search needs) .args .claims))) (l .i) (l .bits) _ (l .inv .1) refl)
 
 returns : tie.Need-returns Inv-loop μ-loop
 returns c = λ i l. c .before .loop .inv .1 i (omega arith)

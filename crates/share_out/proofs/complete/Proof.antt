@@ -1,5 +1,5 @@
 -- `complete` meets its contract, by its two returns.
-use Rattle.base.proofs.Prelude.{refl, arith, needs}
+use Rattle.base.proofs.Prelude.{the, refl, arith, needs}
 use Rattle.share_out.proofs.complete.Statement.{statement}
 use Rattle.share_out.proofs.complete.Tie as tie
 
@@ -8,8 +8,7 @@ returns c = record { stands = λ p. (refl, refl); served = λ z. absurd (omega a
 
 returns-2 : tie.Need-returns-2
 returns-2 c =
-    let after-serve-in-turn : tie.After-serve-in-turn = search needs in
-    record { stands = λ p. absurd (omega arith); served = λ z. after-serve-in-turn .serve-in-turn .ensures }
+    record { stands = λ p. absurd (omega arith); served = λ z. the tie.After-serve-in-turn (search needs) .serve-in-turn .ensures }
 
 pub complete-spec : {M : Type 1} → statement M
 complete-spec =

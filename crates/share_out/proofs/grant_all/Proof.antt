@@ -1,5 +1,5 @@
 -- `grant_all` meets its contract: after i turns the first i grants are the claims.
-use Rattle.base.proofs.Prelude.{_-_, refl, ap, _∙_, arith, length, now, needs, at, tab}
+use Rattle.base.proofs.Prelude.{the, _-_, refl, ap, _∙_, arith, length, now, needs, at, tab}
 use Rattle.base.proofs.VectorLaws.{Filling, filling-none, filling-next, filling-all}
 use Rattle.base.proofs.WordLaws.{tab-at}
 use Rattle.share_out.proofs.grant_all.Statement.{statement}
@@ -12,9 +12,7 @@ abbrev μ-loop : tie.MeasureT-loop
 μ-loop claims grants₀ i₀ grants i = length claims - i
 
 loop-again : tie.Need-loop-again Inv-loop μ-loop
-loop-again c =
-    let at-loop : tie.At-loop Inv-loop μ-loop = search needs in
-    filling-next _ _ _ _ _ (at-loop .loop .inv) (omega arith) refl
+loop-again c = filling-next _ _ _ _ _ (the (tie.At-loop Inv-loop μ-loop) (search needs) .loop .inv) (omega arith) refl
 
 returns : tie.Need-returns Inv-loop μ-loop
 returns c =

@@ -5,9 +5,6 @@ use Rattle.share_out.proofs.RateLaws.{rate-most, portion-by-rate, porti
 use Rattle.share_out.proofs.portion.Statement.{statement}
 use Rattle.share_out.proofs.portion.Tie as tie
 
-add-if1 : tie.Need-add-if1
-add-if1 c = omega (arith, rate-most _ _ _ _ (c .pre), c .pre .pooled, c .pre .weighted)
-
 returns : tie.Need-returns
 returns c = portion-by-rate _ _ _ _ (c .before .pre) (c .if1 .taken)
 
@@ -17,13 +14,11 @@ mul-result c =
     let most : a .left * a .weight ≤ 20000000 * 100000000 = mul-le-mul (c .before .pre .pooled) (c .before .pre .weighted) in
     omega arith
 
-div-result : tie.Need-div-result
-div-result c = omega (arith, portion-some _ _ _ (c .before .pre .among) (c .if1 .left))
-
 returns-2 : tie.Need-returns-2
 returns-2 c = search needs
 
 pub portion-spec : {M : Type 1} → statement M
 portion-spec =
-    tie.close (tie.spec (λ c. omega (arith, rate-most _ _ _ _ (c .pre), c .pre .pooled)) add-if1 returns mul-result
-    div-result returns-2)
+    tie.close (tie.spec (λ c. omega (arith, rate-most _ _ _ _ (c .pre), c .pre .pooled))
+    (λ c. omega (arith, rate-most _ _ _ _ (c .pre), c .pre .pooled, c .pre .weighted)) returns mul-result
+    (λ c. omega (arith, portion-some _ _ _ (c .before .pre .among) (c .if1 .left))) returns-2)

@@ -1,5 +1,5 @@
 -- `share` meets its contract: its two answers are the definition's two cases.
-use Rattle.base.proofs.Prelude.{ℕ, _%_, _^_, _≡_, sym, ap, _∙_, arith, now, needs, at, tab}
+use Rattle.base.proofs.Prelude.{the, ℕ, _%_, _^_, _≡_, sym, ap, _∙_, arith, now, needs, at, tab}
 use Rattle.base.specs.Limits.{mostClaimKw}
 use Rattle.base.proofs.SumLaws.{sumTo-bound}
 use Rattle.base.proofs.VectorLaws.{sum-whole}
@@ -19,20 +19,18 @@ total start r e =
 
 returns : tie.Need-returns
 returns c =
-    let after-sum-of : tie.After-sum-of = search needs in let then1 : tie.Then1 = search needs in
-    let after-grant-all : tie.After-grant-all = search needs in
+    let after-sum-of : tie.After-sum-of = search needs in
     let start : tie.Start = search needs in let a = start .args in
     let sum = total start (after-sum-of .sum-of .result) (after-sum-of .sum-of .ensures) in
-    let fits = then1 .if1 .taken in (
+    let fits = the tie.Then1 (search needs) .if1 .taken in (
       c .granted .ensures ∙ answer-whole (a .pool) (now (a .claims)) (now (a .weights)) (after-sum-of .sum-of .result) sum fits,
-      after-grant-all .grant-all .ensures
+      the tie.After-grant-all (search needs) .grant-all .ensures
           ∙ sym (ap (λ (s : Shared). s .grants) (shared-fits (a .pool) (now (a .claims)) (now (a .weights)) (omega (arith, sum)))),
     )
 
 by-passes-requires : tie.Need-by-passes-requires
 by-passes-requires c κs =
     let start : tie.Start = search needs in let after-sum-of : tie.After-sum-of = search needs in
-    let after-clear : tie.After-clear = search needs in
     let p = start .pre in
     let sum = total start (after-sum-of .sum-of .result) (after-sum-of .sum-of .ensures) in
     record {
@@ -40,18 +38,17 @@ by-passes-requires c κs =
       pooled = fit-pool _ _ _ (p .ranged);
       weighted = fit-weights _ _ _ (p .ranged);
       short = omega (arith, sum);
-      fresh = after-clear .clear .ensures ∙ ap (λ n. tab n (λ i. 0)) (p .sized .granted);
+      fresh = the tie.After-clear (search needs) .clear .ensures ∙ ap (λ n. tab n (λ i. 0)) (p .sized .granted);
     }
 
 returns-2 : tie.Need-returns-2
 returns-2 c =
     let after-sum-of : tie.After-sum-of = search needs in
-    let after-by-passes : tie.After-by-passes = search needs in let else1 : tie.Else1 = search needs in
     let start : tie.Start = search needs in let a = start .args in
     let sum = total start (after-sum-of .sum-of .result) (after-sum-of .sum-of .ensures) in
-    let made = after-by-passes .by-passes .ensures in (
+    let made = the tie.After-by-passes (search needs) .by-passes .ensures in (
       c .granted2 .ensures
-          ∙ answer-passes (a .pool) (now (a .claims)) (now (a .weights)) _ _ (omega (arith, sum, else1 .if1 .left)) made,
+          ∙ answer-passes (a .pool) (now (a .claims)) (now (a .weights)) _ _ (omega (arith, sum, the tie.Else1 (search needs) .if1 .left)) made,
       sym (ap (λ (s : Shared). s .grants) made),
     )
 

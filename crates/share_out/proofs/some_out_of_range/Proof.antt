@@ -1,5 +1,5 @@
 -- `some_out_of_range` meets its contract: each holder passed was in range.
-use Rattle.base.proofs.Prelude.{_-_, _≤_, _≡_, sym, ap, _∙_, true, not, arith, length, now, needs, allTo}
+use Rattle.base.proofs.Prelude.{the, _-_, _≤_, _≡_, sym, ap, _∙_, true, not, arith, length, now, needs, allTo}
 use borrow.Author.Tests.{not-true, not-false}
 use Rattle.base.proofs.SumLaws.{allTo-zero, allTo-more}
 use Rattle.share_out.specs.Rule.{inRange}
@@ -20,21 +20,19 @@ returns : tie.Need-returns Inv-loop μ-loop
 returns c =
     let at-loop : tie.At-loop Inv-loop μ-loop = search needs in
     let in-loop : tie.In-loop Inv-loop μ-loop = search needs in
-    let start : tie.Start Inv-loop μ-loop = search needs in let a = start .args in
+    let a = the (tie.Start Inv-loop μ-loop) (search needs) .args in
     sym
     (holder-over (now (a .claims)) (now (a .weights)) (at-loop .loop .i) (in-loop .loop-test .taken) (sym (c .before .in-range .ensures) ∙ not-true _ (c .if1 .taken)))
 
 loop-again : tie.Need-loop-again Inv-loop μ-loop
-loop-again c =
-    let at-loop : tie.At-loop Inv-loop μ-loop = search needs in (
-      search needs,
-      allTo-more _ _ (at-loop .loop .inv .1) (sym (c .before .in-range .ensures) ∙ not-false _ (c .if1 .left)),
-    )
+loop-again c = (
+  search needs,
+  allTo-more _ _ (the (tie.At-loop Inv-loop μ-loop) (search needs) .loop .inv .1) (sym (c .before .in-range .ensures) ∙ not-false _ (c .if1 .left)),
+)
 
 returns-2 : tie.Need-returns-2 Inv-loop μ-loop
 returns-2 c =
-    let start : tie.Start Inv-loop μ-loop = search needs in
-    let end : c .before .loop .i ≡ length (now (start .args .claims)) = omega arith in
+    let end : c .before .loop .i ≡ length (now (the (tie.Start Inv-loop μ-loop) (search needs) .args .claims)) = omega arith in
     sym (ap not (rw end at (c .before .loop .inv .1)))
 
 pub some-out-of-range-spec : {M : Type 1} → statement M

@@ -1,5 +1,5 @@
 -- `unfit_numbers` meets its contract: by the pool, by the bits of all, or by each holder.
-use Rattle.base.proofs.Prelude.{sym, _∙_, arith, now, needs}
+use Rattle.base.proofs.Prelude.{the, sym, _∙_, arith, now, needs}
 use Rattle.share_out.proofs.NumberLaws.{pool-over, surely-fit, all-fit, by-holders}
 use Rattle.share_out.proofs.unfit_numbers.Statement.{statement}
 use Rattle.share_out.proofs.unfit_numbers.Tie as tie
@@ -9,19 +9,19 @@ returns c = search (needs, pool-over)
 
 returns-2 : tie.Need-returns-2
 returns-2 c =
-    let start : tie.Start = search needs in let after-weight-bits : tie.After-weight-bits = search needs in
-    let else1 : tie.Else1 = search needs in let after-claim-bits : tie.After-claim-bits = search needs in
+    let start : tie.Start = search needs in
+    let after-claim-bits : tie.After-claim-bits = search needs in
     let claims = now (start .args .claims) in
     let weights = now (start .args .weights) in
-    let w = after-weight-bits .weight-bits in
+    let w = the tie.After-weight-bits (search needs) .weight-bits in
     sym
-    (all-fit (start .args .pool) claims weights (else1 .if1 .left)
+    (all-fit (start .args .pool) claims weights (the tie.Else1 (search needs) .if1 .left)
     (surely-fit claims weights _ _ (after-claim-bits .claim-bits .ensures) (λ i l. w .ensures i (omega (arith, start .pre))) (sym (c .before .surely-in-range .ensures) ∙ c .if2 .taken)))
 
 returns-3 : tie.Need-returns-3
 returns-3 c =
-    let else1 : tie.Else1 = search needs in let start : tie.Start = search needs in let a = start .args in
-    c .some-out-of-range .ensures ∙ by-holders (a .pool) (now (a .claims)) (now (a .weights)) (else1 .if1 .left)
+    let a = the tie.Start (search needs) .args in
+    c .some-out-of-range .ensures ∙ by-holders (a .pool) (now (a .claims)) (now (a .weights)) (the tie.Else1 (search needs) .if1 .left)
 
 pub unfit-numbers-spec : {M : Type 1} → statement M
 unfit-numbers-spec =

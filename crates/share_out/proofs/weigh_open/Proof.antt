@@ -1,5 +1,5 @@
 -- `weigh_open` meets its contract: after i turns the first i weights are noted and summed (`LoopLaws`).
-use Rattle.base.proofs.Prelude.{_-_, arith, length, now, needs}
+use Rattle.base.proofs.Prelude.{the, _-_, arith, length, now, needs}
 use Rattle.share_out.specs.Workers.Fit.{none}
 use Rattle.share_out.specs.Pass.{openWeight}
 use Rattle.share_out.proofs.PassLaws.{openWeight-most}
@@ -35,7 +35,7 @@ loop-again : tie.Need-loop-again Inv-loop μ-loop
 loop-again c =
     let at-loop : tie.At-loop Inv-loop μ-loop = search needs in
     let in-loop : tie.In-loop Inv-loop μ-loop = search needs in
-    let start : tie.Start Inv-loop μ-loop = search needs in let a = start .args in
+    let a = the (tie.Start Inv-loop μ-loop) (search needs) .args in
     noted-next _ _ _ _ _ (at-loop .loop .i) _ (at-loop .loop .inv) (in-loop .loop-test .taken)
     (first-is (now (a .claims)) (now (a .weights)) (at-loop .loop .i) _ (in-loop .loop-test .taken) (c .open-weight .ensures))
 

@@ -1,5 +1,5 @@
 -- `weight_bits` meets its contract: after i turns no raised weight of the first i is above the bits.
-use Rattle.base.proofs.Prelude.{ℕ, _-_, _≤_, List, arith, length, now, needs, at}
+use Rattle.base.proofs.Prelude.{the, ℕ, _-_, _≤_, List, arith, length, now, needs, at}
 use Rattle.share_out.specs.Workers.Fit.{Covered, raised}
 use Rattle.share_out.proofs.NumberLaws.{covered-none, covered-more}
 use Rattle.share_out.proofs.weight_bits.Statement.{statement}
@@ -20,10 +20,8 @@ loop-holds c = (search needs, covered-none _)
 
 loop-again : tie.Need-loop-again Inv-loop μ-loop
 loop-again c =
-    let at-loop : tie.At-loop Inv-loop μ-loop = search needs in
-    let start : tie.Start Inv-loop μ-loop = search needs in
-    let l = at-loop .loop in
-    (search needs, covered-more (raisedAt (now (start .args .weights))) (l .i) (l .bits) _ (l .inv .1) (c .raised .ensures))
+    let l = the (tie.At-loop Inv-loop μ-loop) (search needs) .loop in
+    (search needs, covered-more (raisedAt (now (the (tie.Start Inv-loop μ-loop) (search needs) .args .weights))) (l .i) (l .bits) _ (l .inv .1) (c .raised .ensures))
 
 returns : tie.Need-returns Inv-loop μ-loop
 returns c = λ i l. c .before .loop .inv .1 i (omega arith)

@@ -1,5 +1,5 @@
 -- `to_sheet` meets its contract: the first line, then the others, then the bytes (`ConvertLaws`).
-use Rattle.base.proofs.Prelude.{_≤_, sym, arith, length, now, needs}
+use Rattle.base.proofs.Prelude.{the, _≤_, sym, arith, length, now, needs}
 use lib.Seq.{length-take-le}
 use Rattle.text.proofs.PieceLaws.{before-le}
 use Rattle.sheet_table.proofs.ConvertLaws.{first-stops, line-stops, text-converts}
@@ -35,9 +35,6 @@ returns-2 c =
     let start : tie.Start = search needs in let a = start .args in
     let read = after-read-lines .read-lines in
     line-stops (now (a .text)) _ (found .before2 .ensures) _ (after-read-first .read-first .ensures) (else1 .if1 .left) (read .last .1 .1 .0) (read .last .1 .1 .1 .0) _ (read .ensures) _ (c .if2 .taken)
-
-abbrev the : (A : Type 0) → A → A
-the A x = x
 
 returns-3 : tie.Need-returns-3
 returns-3 c =

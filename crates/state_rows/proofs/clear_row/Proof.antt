@@ -1,5 +1,5 @@
 -- `clear_row` meets its contract: after n turns the first n columns are cleared.
-use Rattle.base.proofs.Prelude.{ℕ, _-_, _≤_, _≡_, refl, sym, ap, _∙_, arith, length, length-set, now, needs}
+use Rattle.base.proofs.Prelude.{the, ℕ, _-_, _≤_, _≡_, refl, sym, ap, _∙_, arith, length, length-set, now, needs}
 use Rattle.state_rows.specs.Rows.{fillRow}
 use Rattle.state_rows.proofs.RowLaws.{fillRow-none, fillRow-turn}
 use Rattle.state_rows.proofs.clear_row.Statement.{statement}
@@ -17,7 +17,7 @@ loop-holds c = (search needs, refl, sym (fillRow-none _ _ _))
 
 loop-again : tie.Need-loop-again Inv-loop μ-loop
 loop-again c =
-    let start : tie.Start Inv-loop μ-loop = search needs in let a = start .args in (
+    let a = the (tie.Start Inv-loop μ-loop) (search needs) .args in (
       search needs,
       simp length-set (c .before .loop .inv .1),
       fillRow-turn (a .row) (c .before .loop .column) (λ (k : ℕ). 0) _ _ _ (c .before .loop .inv .2) refl,
@@ -25,7 +25,7 @@ loop-again c =
 
 returns : tie.Need-returns Inv-loop μ-loop
 returns c =
-    let start : tie.Start Inv-loop μ-loop = search needs in let a = start .args in
+    let a = the (tie.Start Inv-loop μ-loop) (search needs) .args in
     let end : c .before .loop .column ≡ a .count = omega arith in
     c .before .loop .inv .2 ∙ ap (λ n. fillRow (a .row) n (λ (k : ℕ). 0) (now (a .state))) end
 

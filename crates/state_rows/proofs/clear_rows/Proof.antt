@@ -1,5 +1,5 @@
 -- `clear_rows` meets its contract: after m turns the rows of the first m holders are cleared.
-use Rattle.base.proofs.Prelude.{ℕ, _-_, _≤_, _≡_, refl, sym, ap, _∙_, arith, length, now, needs}
+use Rattle.base.proofs.Prelude.{the, ℕ, _-_, _≤_, _≡_, refl, sym, ap, _∙_, arith, length, now, needs}
 use Rattle.state_rows.specs.Rows.{fillPairs}
 use Rattle.state_rows.proofs.RowLaws.{fillPairs-none, fillPairs-turn}
 use Rattle.state_rows.proofs.clear_rows.Statement.{statement}
@@ -19,7 +19,7 @@ loop-again : tie.Need-loop-again Inv-loop μ-loop
 loop-again c =
     let after-clear-row : tie.After-clear-row Inv-loop μ-loop = search needs in
     let at-loop : tie.At-loop Inv-loop μ-loop = search needs in
-    let start : tie.Start Inv-loop μ-loop = search needs in let a = start .args in (
+    let a = the (tie.Start Inv-loop μ-loop) (search needs) .args in (
       search needs,
       after-clear-row .clear-row .kept .0 ∙ at-loop .loop .inv .1,
       after-clear-row .clear-row .ensures
@@ -28,7 +28,7 @@ loop-again c =
 
 returns : tie.Need-returns Inv-loop μ-loop
 returns c =
-    let start : tie.Start Inv-loop μ-loop = search needs in let a = start .args in
+    let a = the (tie.Start Inv-loop μ-loop) (search needs) .args in
     let end : c .before .loop .holder ≡ a .holders = omega arith in
     c .before .loop .inv .2 ∙ ap (λ n. fillPairs (a .field) n (a .interties) (λ (h i : ℕ). 0) (now (a .state))) end
 

@@ -1,5 +1,5 @@
 -- `raise_row` meets its contract: after n turns the first n columns are raised.
-use Rattle.base.proofs.Prelude.{ℕ, _+_, _-_, _%_, _≤_, _≡_, refl, sym, ap, _∙_, List, arith, length, length-set, now, needs, at}
+use Rattle.base.proofs.Prelude.{the, ℕ, _+_, _-_, _%_, _≤_, _≡_, refl, sym, ap, _∙_, List, arith, length, length-set, now, needs, at}
 use native.Mathlib.Nat.{le-refl}
 use Rattle.state.specs.Layout.{place}
 use Rattle.state_rows.specs.Rows.{fillRow}
@@ -23,9 +23,8 @@ loop-holds c = (search needs, refl, sym (fillRow-none _ _ _))
 
 loop-again : tie.Need-loop-again Inv-loop μ-loop
 loop-again c =
-    let at-loop : tie.At-loop Inv-loop μ-loop = search needs in
-    let start : tie.Start Inv-loop μ-loop = search needs in let a = start .args in
-    let l = at-loop .loop in
+    let a = the (tie.Start Inv-loop μ-loop) (search needs) .args in
+    let l = the (tie.At-loop Inv-loop μ-loop) (search needs) .loop in
     let s = now (a .state) in
     let f = sum s (a .row) (now (a .values)) (a .from) in
     let word : at (l .state) (place (a .row) (l .column)) ≡ at s (place (a .row) (l .column)) =
@@ -39,7 +38,7 @@ loop-again c =
 
 returns : tie.Need-returns Inv-loop μ-loop
 returns c =
-    let start : tie.Start Inv-loop μ-loop = search needs in let a = start .args in
+    let a = the (tie.Start Inv-loop μ-loop) (search needs) .args in
     let end : c .before .loop .column ≡ a .count = omega arith in
     c .before .loop .inv .2 ∙ ap (λ n. fillRow (a .row) n (sum (now (a .state)) (a .row) (now (a .values)) (a .from)) (now (a .state))) end
 

@@ -1,5 +1,5 @@
 -- `raise_rows` meets its contract: after m turns the rows of the first m holders are raised.
-use Rattle.base.proofs.Prelude.{ℕ, _+_, _-_, _*_, _%_, _≤_, _<_, _≡_, refl, sym, ap, _∙_, List, arith, length, now, needs, at}
+use Rattle.base.proofs.Prelude.{the, ℕ, _+_, _-_, _*_, _%_, _≤_, _<_, _≡_, refl, sym, ap, _∙_, List, arith, length, now, needs, at}
 use mathlib.Core.Logic.{inr}
 use native.Mathlib.Nat.{le-refl}
 use Rattle.state.specs.Layout.{place}
@@ -24,10 +24,9 @@ loop-holds c = (search needs, refl, sym (fillPairs-none _ _ _ _))
 
 loop-again : tie.Need-loop-again Inv-loop μ-loop
 loop-again c =
-    let at-loop : tie.At-loop Inv-loop μ-loop = search needs in
     let after-raise-row : tie.After-raise-row Inv-loop μ-loop = search needs in
-    let start : tie.Start Inv-loop μ-loop = search needs in let a = start .args in
-    let l = at-loop .loop in
+    let a = the (tie.Start Inv-loop μ-loop) (search needs) .args in
+    let l = the (tie.At-loop Inv-loop μ-loop) (search needs) .loop in
     let s = now (a .state) in
     let f = sum s (a .field) (now (a .values)) in
     let row = a .field + l .holder in
@@ -45,7 +44,7 @@ loop-again c =
 
 returns : tie.Need-returns Inv-loop μ-loop
 returns c =
-    let start : tie.Start Inv-loop μ-loop = search needs in let a = start .args in
+    let a = the (tie.Start Inv-loop μ-loop) (search needs) .args in
     let end : c .before .loop .holder ≡ a .holders = omega arith in
     c .before .loop .inv .2 ∙ ap (λ n. fillPairs (a .field) n (a .interties) (sum (now (a .state)) (a .field) (now (a .values))) (now (a .state))) end
 

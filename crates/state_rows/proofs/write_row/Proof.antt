@@ -1,5 +1,5 @@
 -- `write_row` meets its contract: after n turns the first n columns are written.
-use Rattle.base.proofs.Prelude.{ℕ, _+_, _-_, _%_, _≤_, _≡_, refl, sym, ap, _∙_, List, arith, length, length-set, now, needs, at}
+use Rattle.base.proofs.Prelude.{the, ℕ, _+_, _-_, _%_, _≤_, _≡_, refl, sym, ap, _∙_, List, arith, length, length-set, now, needs, at}
 use Rattle.state_rows.specs.Rows.{fillRow}
 use Rattle.state_rows.proofs.RowLaws.{fillRow-none, fillRow-turn}
 use Rattle.state_rows.proofs.write_row.Statement.{statement}
@@ -22,7 +22,7 @@ loop-holds c = (search needs, refl, sym (fillRow-none _ _ _))
 loop-again : tie.Need-loop-again Inv-loop μ-loop
 loop-again c =
     let at-loop : tie.At-loop Inv-loop μ-loop = search needs in
-    let start : tie.Start Inv-loop μ-loop = search needs in let a = start .args in (
+    let a = the (tie.Start Inv-loop μ-loop) (search needs) .args in (
       search needs,
       simp length-set (at-loop .loop .inv .1),
       fillRow-turn (a .row) (at-loop .loop .column) (low (now (a .values)) (a .from)) _ _ _ (at-loop .loop .inv .2) refl,
@@ -30,7 +30,7 @@ loop-again c =
 
 returns : tie.Need-returns Inv-loop μ-loop
 returns c =
-    let start : tie.Start Inv-loop μ-loop = search needs in let a = start .args in
+    let a = the (tie.Start Inv-loop μ-loop) (search needs) .args in
     let end : c .before .loop .column ≡ a .count = omega arith in
     c .before .loop .inv .2 ∙ ap (λ n. fillRow (a .row) n (low (now (a .values)) (a .from)) (now (a .state))) end
 

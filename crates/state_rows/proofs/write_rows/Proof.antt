@@ -1,5 +1,5 @@
 -- `write_rows` meets its contract: after m turns the rows of the first m holders are written.
-use Rattle.base.proofs.Prelude.{ℕ, _+_, _-_, _*_, _%_, _≤_, _≡_, refl, sym, ap, _∙_, List, arith, length, now, needs, at}
+use Rattle.base.proofs.Prelude.{the, ℕ, _+_, _-_, _*_, _%_, _≤_, _≡_, refl, sym, ap, _∙_, List, arith, length, now, needs, at}
 use Rattle.state_rows.specs.Rows.{fillPairs}
 use Rattle.state_rows.proofs.RowLaws.{fillPairs-none, fillPairs-turn}
 use Rattle.state_rows.proofs.write_rows.Statement.{statement}
@@ -23,7 +23,7 @@ loop-again : tie.Need-loop-again Inv-loop μ-loop
 loop-again c =
     let after-write-row : tie.After-write-row Inv-loop μ-loop = search needs in
     let at-loop : tie.At-loop Inv-loop μ-loop = search needs in
-    let start : tie.Start Inv-loop μ-loop = search needs in let a = start .args in (
+    let a = the (tie.Start Inv-loop μ-loop) (search needs) .args in (
       search needs,
       after-write-row .write-row .kept .0 ∙ at-loop .loop .inv .1,
       after-write-row .write-row .ensures
@@ -32,7 +32,7 @@ loop-again c =
 
 returns : tie.Need-returns Inv-loop μ-loop
 returns c =
-    let start : tie.Start Inv-loop μ-loop = search needs in let a = start .args in
+    let a = the (tie.Start Inv-loop μ-loop) (search needs) .args in
     let end : c .before .loop .holder ≡ a .holders = omega arith in
     c .before .loop .inv .2 ∙ ap (λ n. fillPairs (a .field) n (a .interties) (low (now (a .values))) (now (a .state))) end
 

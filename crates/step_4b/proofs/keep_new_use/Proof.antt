@@ -1,5 +1,5 @@
 -- `keep_new_use` meets its contract: after r turns the state is the definition's after the ranks below r (`LoopLaws`), and the ranks past the used ones change nothing.
-use Rattle.base.proofs.Prelude.{_-_, arith, length, now, needs}
+use Rattle.base.proofs.Prelude.{the, _-_, arith, length, now, needs}
 use Rattle.step_4b.proofs.LoopLaws.{Ranked, ranked-none, ranked-next, ranked-all, cleared-size, cleared-whole}
 use Rattle.step_4b.proofs.keep_new_use.Statement.{statement}
 use Rattle.step_4b.proofs.keep_new_use.Tie as tie
@@ -13,9 +13,8 @@ abbrev μ-loop : tie.MeasureT-loop
 
 loop-holds : tie.Need-loop-holds Inv-loop μ-loop
 loop-holds c =
-    let start : tie.Start Inv-loop μ-loop = search needs in
     let after-clear : tie.After-clear Inv-loop μ-loop = search needs in
-    ranked-none _ _ _ _ _ _ _ (cleared-whole (length (now (start .args .kept))) _ (after-clear .clear .ensures))
+    ranked-none _ _ _ _ _ _ _ (cleared-whole (length (now (the (tie.Start Inv-loop μ-loop) (search needs) .args .kept))) _ (after-clear .clear .ensures))
 
 shared-slice-read-keep-rank : tie.Need-shared-slice-read-keep-rank Inv-loop μ-loop
 shared-slice-read-keep-rank c =
@@ -35,22 +34,17 @@ keep-rank-requires c κs = omega (arith, c .before .before .before .before .befo
 
 loop-again : tie.Need-loop-again Inv-loop μ-loop
 loop-again c =
-    let at-loop : tie.At-loop Inv-loop μ-loop = search needs in
-    let in-loop : tie.In-loop Inv-loop μ-loop = search needs in
-    let after-place : tie.After-place Inv-loop μ-loop = search needs in
-    let after-keep-rank : tie.After-keep-rank Inv-loop μ-loop = search needs in
-    ranked-next _ _ _ _ _ _ _ _ _ _ (at-loop .loop .inv)
-    (in-loop .loop-test .taken)
-    (after-place .place .ensures)
-    (after-keep-rank .keep-rank .ensures)
+    ranked-next _ _ _ _ _ _ _ _ _ _ (the (tie.At-loop Inv-loop μ-loop) (search needs) .loop .inv)
+    (the (tie.In-loop Inv-loop μ-loop) (search needs) .loop-test .taken)
+    (the (tie.After-place Inv-loop μ-loop) (search needs) .place .ensures)
+    (the (tie.After-keep-rank Inv-loop μ-loop) (search needs) .keep-rank .ensures)
 
 returns : tie.Need-returns Inv-loop μ-loop
 returns c =
-    let start : tie.Start Inv-loop μ-loop = search needs in
     let after-clear : tie.After-clear Inv-loop μ-loop = search needs in
     let after-shorter : tie.After-shorter Inv-loop μ-loop = search needs in
     let after-used-ranks : tie.After-used-ranks Inv-loop μ-loop = search needs in
-    rw (← cleared-size (length (now (start .args .kept))) _ (after-clear .clear .ensures))
+    rw (← cleared-size (length (now (the (tie.Start Inv-loop μ-loop) (search needs) .args .kept))) _ (after-clear .clear .ensures))
     (ranked-all _ _ _ _ _ _ _ _ (c .before .loop .inv) (c .loop-test .left) (rw (after-shorter .shorter .ensures) at (after-used-ranks .used-ranks .ensures)))
 
 pub keep-new-use-spec : {M : Type 1} → statement M

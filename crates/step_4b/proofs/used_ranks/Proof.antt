@@ -1,5 +1,5 @@
 -- `used_ranks` meets its contract: sixteen zeros at a time are left out (`UsedLaws`).
-use Rattle.base.proofs.Prelude.{arith, needs}
+use Rattle.base.proofs.Prelude.{the, arith, needs}
 use borrow.Author.Tests.{not-false}
 use Rattle.step_4b.specs.Workers.Used.{Used}
 use Rattle.step_4b.proofs.UsedLaws.{used-all, used-less}
@@ -22,9 +22,7 @@ loop-again c =
     used-less _ _ _ (at-loop .loop .inv) (in-loop .loop-test .left) (c .before .sixteen-zeros .ensures (not-false _ (c .if1 .left)))
 
 returns-2 : tie.Need-returns-2 Inv-loop μ-loop
-returns-2 c =
-    let at-loop : tie.At-loop Inv-loop μ-loop = search needs in
-    at-loop .loop .inv
+returns-2 c = the (tie.At-loop Inv-loop μ-loop) (search needs) .loop .inv
 
 pub used-ranks-spec : {M : Type 1} → statement M
 used-ranks-spec =

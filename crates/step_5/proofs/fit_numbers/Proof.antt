@@ -1,5 +1,5 @@
 -- `fit_numbers` meets its contract: T is tested first, and each holder passed was in range.
-use Rattle.base.proofs.Prelude.{_-_, _≤_, _≡_, sym, _∙_, true, arith, length, now, needs, allTo}
+use Rattle.base.proofs.Prelude.{the, _-_, _≤_, _≡_, sym, _∙_, true, arith, length, now, needs, allTo}
 use borrow.Author.Tests.{not-true, not-false}
 use Rattle.base.proofs.SumLaws.{allTo-zero, allTo-more}
 use Rattle.step_5.specs.Outcome.{inRange}
@@ -26,16 +26,14 @@ returns-2 c =
     (holder-over _ _ _ (at-loop .loop .i) (search needs) (sym (c .before .in-range .ensures) ∙ not-true _ (c .if2 .taken)))
 
 loop-again : tie.Need-loop-again Inv-loop μ-loop
-loop-again c =
-    let at-loop : tie.At-loop Inv-loop μ-loop = search needs in (
-      search needs,
-      allTo-more _ _ (at-loop .loop .inv .1) (sym (c .before .in-range .ensures) ∙ not-false _ (c .if2 .left)),
-    )
+loop-again c = (
+  search needs,
+  allTo-more _ _ (the (tie.At-loop Inv-loop μ-loop) (search needs) .loop .inv .1) (sym (c .before .in-range .ensures) ∙ not-false _ (c .if2 .left)),
+)
 
 returns-3 : tie.Need-returns-3 Inv-loop μ-loop
 returns-3 c =
-    let start : tie.Start Inv-loop μ-loop = search needs in
-    let end : c .before .loop .i ≡ length (now (start .args .held)) = omega arith in
+    let end : c .before .loop .i ≡ length (now (the (tie.Start Inv-loop μ-loop) (search needs) .args .held)) = omega arith in
     sym (all-fit _ _ _ (search needs) (rw end at (c .before .loop .inv .1)))
 
 pub fit-numbers-spec : {M : Type 1} → statement M

@@ -1,14 +1,12 @@
 -- `gross_remaining` meets its contract, by those of its two calls.
-use Rattle.base.proofs.Prelude.{_-_, ap, _∙_, needs}
+use Rattle.base.proofs.Prelude.{the, _-_, ap, _∙_, needs}
 use Rattle.step_5.specs.Round.{grossRemaining}
 use Rattle.step_5.proofs.gross_remaining.Statement.{statement}
 use Rattle.step_5.proofs.gross_remaining.Tie as tie
 
 returns : tie.Need-returns
 unfolding grossRemaining
-returns c =
-    let start : tie.Start = search needs in
-    c .excess .ensures ∙ ap (λ k. start .args .total - k) (c .before .sum-marked .ensures)
+returns c = c .excess .ensures ∙ ap (λ k. the tie.Start (search needs) .args .total - k) (c .before .sum-marked .ensures)
 
 pub gross-remaining-spec : {M : Type 1} → statement M
 gross-remaining-spec =

@@ -1,5 +1,5 @@
 -- `write_shares` meets its contract: after i turns the first i shares are written (`LoopLaws`).
-use Rattle.base.proofs.Prelude.{_-_, arith, length, needs}
+use Rattle.base.proofs.Prelude.{the, _-_, arith, length, needs}
 use Rattle.step_5.proofs.FitLaws.{held-addends, load-addends, loads-is}
 use Rattle.step_5.proofs.LoopLaws.{Sharing, sharing-none, sharing-next, sharing-all, settled-is, quota-is}
 use Rattle.step_5.proofs.write_shares.Statement.{statement}
@@ -13,53 +13,40 @@ abbrev μ-loop : tie.MeasureT-loop
 
 gross-remaining-requires : tie.Need-gross-remaining-requires Inv-loop μ-loop
 gross-remaining-requires c κs =
-    let start : tie.Start Inv-loop μ-loop = search needs in
-    let p = start .pre in
+    let p = the (tie.Start Inv-loop μ-loop) (search needs) .pre in
     held-addends _ _ _ _ (p .0) (settled-is _ _ _ _ (p .1) .marks)
 
 sum-marked-requires : tie.Need-sum-marked-requires Inv-loop μ-loop
 sum-marked-requires c κs =
-    let start : tie.Start Inv-loop μ-loop = search needs in
-    let p = start .pre in
+    let p = the (tie.Start Inv-loop μ-loop) (search needs) .pre in
     load-addends _ _ _ _ (p .0) (settled-is _ _ _ _ (p .1) .marks)
 
 loop-holds : tie.Need-loop-holds Inv-loop μ-loop
 loop-holds c = sharing-none _ _ _ _ _
 
 shared-slice-read-share-of : tie.Need-shared-slice-read-share-of Inv-loop μ-loop
-shared-slice-read-share-of c =
-    let start : tie.Start Inv-loop μ-loop = search needs in
-    omega (arith, settled-is _ _ _ _ (start .pre .1) .marks .size)
+shared-slice-read-share-of c = omega (arith, settled-is _ _ _ _ (the (tie.Start Inv-loop μ-loop) (search needs) .pre .1) .marks .size)
 
 share-of-requires : tie.Need-share-of-requires Inv-loop μ-loop
 share-of-requires c κs =
-    let start : tie.Start Inv-loop μ-loop = search needs in
-    let at-loop : tie.At-loop Inv-loop μ-loop = search needs in
     let in-loop : tie.In-loop Inv-loop μ-loop = search needs in
-    let after-gross-remaining : tie.After-gross-remaining Inv-loop μ-loop = search needs in
-    let after-sum-marked : tie.After-sum-marked Inv-loop μ-loop = search needs in
-    let p = start .pre in
-    quota-is _ _ _ _ (at-loop .loop .i) _ _ (p .0) (p .1) (in-loop .loop-test .taken)
-    (after-gross-remaining .gross-remaining .ensures)
-    (loads-is _ _ _ _ (p .0) (settled-is _ _ _ _ (p .1) .marks) _ (after-sum-marked .sum-marked .ensures))
+    let p = the (tie.Start Inv-loop μ-loop) (search needs) .pre in
+    quota-is _ _ _ _ (the (tie.At-loop Inv-loop μ-loop) (search needs) .loop .i) _ _ (p .0) (p .1) (in-loop .loop-test .taken)
+    (the (tie.After-gross-remaining Inv-loop μ-loop) (search needs) .gross-remaining .ensures)
+    (loads-is _ _ _ _ (p .0) (settled-is _ _ _ _ (p .1) .marks) _ (the (tie.After-sum-marked Inv-loop μ-loop) (search needs) .sum-marked .ensures))
 
 loop-again : tie.Need-loop-again Inv-loop μ-loop
 loop-again c =
-    let start : tie.Start Inv-loop μ-loop = search needs in
     let at-loop : tie.At-loop Inv-loop μ-loop = search needs in
-    let in-loop : tie.In-loop Inv-loop μ-loop = search needs in
-    let after-gross-remaining : tie.After-gross-remaining Inv-loop μ-loop = search needs in
-    let after-sum-marked : tie.After-sum-marked Inv-loop μ-loop = search needs in
-    let p = start .pre in
-    sharing-next _ _ _ _ _ _ (at-loop .loop .i) _ _ _ (at-loop .loop .inv) (in-loop .loop-test .taken)
-    (after-gross-remaining .gross-remaining .ensures)
-    (loads-is _ _ _ _ (p .0) (settled-is _ _ _ _ (p .1) .marks) _ (after-sum-marked .sum-marked .ensures))
+    let p = the (tie.Start Inv-loop μ-loop) (search needs) .pre in
+    sharing-next _ _ _ _ _ _ (at-loop .loop .i) _ _ _ (at-loop .loop .inv) (the (tie.In-loop Inv-loop μ-loop) (search needs) .loop-test .taken)
+    (the (tie.After-gross-remaining Inv-loop μ-loop) (search needs) .gross-remaining .ensures)
+    (loads-is _ _ _ _ (p .0) (settled-is _ _ _ _ (p .1) .marks) _ (the (tie.After-sum-marked Inv-loop μ-loop) (search needs) .sum-marked .ensures))
     (c .share-of .ensures)
 
 returns : tie.Need-returns Inv-loop μ-loop
 returns c =
-    let start : tie.Start Inv-loop μ-loop = search needs in
-    let p = start .pre in
+    let p = the (tie.Start Inv-loop μ-loop) (search needs) .pre in
     sharing-all _ _ _ _ _ _ _ (p .2) (c .before .loop .inv) (c .loop-test .left) (p .1)
 
 pub write-shares-spec : {M : Type 1} → statement M

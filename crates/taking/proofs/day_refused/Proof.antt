@@ -1,13 +1,12 @@
 -- `day_refused` meets its contract: it reads the calendar and asks it.
-use Rattle.base.proofs.Prelude.{ap, _∙_, needs}
+use Rattle.base.proofs.Prelude.{the, ap, _∙_, needs}
 use Rattle.taking.specs.Calendar.{refusesDay}
 use Rattle.taking.proofs.day_refused.Statement.{statement}
 use Rattle.taking.proofs.day_refused.Tie as tie
 
 returns : tie.Need-returns
 returns c =
-    let start : tie.Start = search needs in
-    c .refuses .ensures ∙ ap (λ k. refusesDay k (start .args .day)) (c .before .calendar-of .ensures)
+    c .refuses .ensures ∙ ap (λ k. refusesDay k (the tie.Start (search needs) .args .day)) (c .before .calendar-of .ensures)
 
 pub day-refused-spec : {M : Type 1} → statement M
 day-refused-spec =

@@ -1,5 +1,5 @@
 -- `give` meets its contract: it reads both words and stores both.
-use Rattle.base.proofs.Prelude.{now, needs}
+use Rattle.base.proofs.Prelude.{the, now, needs}
 use Rattle.state.specs.Layout.{unassignedAt, takenAt}
 use Rattle.call.proofs.StoreLaws.{carried}
 use Rattle.taking.proofs.give.Statement.{statement}
@@ -9,7 +9,7 @@ returns : tie.Need-returns
 returns c =
     let after-store-pair : tie.After-store-pair = search needs in let after-store : tie.After-store = search needs in
     let after-pair-word : tie.After-pair-word = search needs in let after-word : tie.After-word = search needs in
-    let start : tie.Start = search needs in let a = start .args in
+    let a = the tie.Start (search needs) .args in
     carried (now (a .state)) (unassignedAt (a .intertie)) (takenAt (a .holder) (a .intertie)) (a .kw)
     (after-word .word .ensures) (after-pair-word .pair-word .ensures) (after-store .store .ensures) (after-store-pair .store-pair .ensures)
 

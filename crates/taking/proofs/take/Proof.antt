@@ -1,5 +1,5 @@
 -- `take` meets its contract: a refusal leaves the state; else it gives the kW and keeps the calendar.
-use Rattle.base.proofs.Prelude.{sym, ap, _∙_, arith, now, needs}
+use Rattle.base.proofs.Prelude.{the, sym, ap, _∙_, arith, now, needs}
 use Rattle.base.specs.Answers.{granted}
 use Rattle.call.proofs.LadderLaws.{answers-refused, answers-done}
 use Rattle.taking.specs.Take.{take}
@@ -16,20 +16,17 @@ done c = take-done _ _ _ _ _ (sym (c .before .take-refusal .ensures) ∙ c .if1 
 returns : tie.Need-returns
 unfolding take
 returns c =
-    let after-take-refusal : tie.After-take-refusal = search needs in
-    answers-refused _ _ _ _ _ (after-take-refusal .take-refusal .ensures) (c .before .if1 .taken) (c .refused .ensures)
+    answers-refused _ _ _ _ _ (the tie.After-take-refusal (search needs) .take-refusal .ensures) (c .before .if1 .taken) (c .refused .ensures)
 
 cast-give : tie.Need-cast-give
 cast-give c =
-    let else1 : tie.Else1 = search needs in
     let read = c .before in
-    omega (arith, done else1 .kw-most, read .take-kw .ensures)
+    omega (arith, done (the tie.Else1 (search needs)) .kw-most, read .take-kw .ensures)
 
 give-requires : tie.Need-give-requires
 give-requires c κs =
-    let else1 : tie.Else1 = search needs in
     let read = c .before in
-    let d = done else1 in
+    let d = done (the tie.Else1 (search needs)) in
     (omega (arith, take-within _ _ _ _ _ d, read .take-kw .ensures), omega (arith, take-fits _ _ _ _ _ d, read .take-kw .ensures))
 
 returns-2 : tie.Need-returns-2
@@ -37,9 +34,8 @@ unfolding take
 returns-2 c =
     let after-keep-calendar : tie.After-keep-calendar = search needs in
     let after-give : tie.After-give = search needs in let after-take-kw : tie.After-take-kw = search needs in
-    let else1 : tie.Else1 = search needs in let after-take-refusal : tie.After-take-refusal = search needs in
     let after-calendar-after : tie.After-calendar-after = search needs in
-    answers-done _ _ _ _ _ _ (after-take-refusal .take-refusal .ensures) (else1 .if1 .left)
+    answers-done _ _ _ _ _ _ (the tie.After-take-refusal (search needs) .take-refusal .ensures) (the tie.Else1 (search needs) .if1 .left)
     (c .granted .ensures ∙ ap (λ k. granted k 0) (after-take-kw .take-kw .ensures))
     (take-stored _ _ _ _ _ (after-take-kw .take-kw .ensures) (after-calendar-after .calendar-after .ensures) (after-give .give .ensures) (after-keep-calendar .keep-calendar .ensures))
 

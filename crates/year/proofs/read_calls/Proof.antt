@@ -5,7 +5,9 @@ use Rattle.year.proofs.read_calls.Statement.{statement}
 use Rattle.year.proofs.read_calls.Tie as tie
 
 returns-4 : tie.Need-returns-4
-returns-4 c = calls-few _ (now (c .before .before .before .before .before .before .before .before .before .before .before .before .args .calls)) _ (search needs) (c .before .before .read-journal .ensures .0) (c .if3 .left)
+returns-4 c =
+    let start : tie.Start = search needs in let after-read-journal : tie.After-read-journal = search needs in
+    calls-few _ (now (start .args .calls)) _ (search needs) (after-read-journal .read-journal .ensures .0) (c .if3 .left)
 
 pub read-calls-spec : {M : Type 1} → statement M
 read-calls-spec =

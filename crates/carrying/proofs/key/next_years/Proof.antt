@@ -1,23 +1,21 @@
 -- `key::next_years` meets its contract, by the kind and then by the years (`KeyLaws`).
-use Rattle.base.proofs.Prelude.{needs}
+use Rattle.base.proofs.Prelude.{the, needs}
 use Rattle.carrying.proofs.KeyLaws.{years-stay, years-none, years-fall}
 use Rattle.carrying.proofs.key.next_years.Statement.{statement}
 use Rattle.carrying.proofs.key.next_years.Tie as tie
 
 returns : tie.Need-returns
 returns c =
-    let after-years : tie.After-years = search needs in
-    years-stay _ _ _ (c .before .yearless .ensures) (after-years .years .ensures) (c .if1 .taken)
+    years-stay _ _ _ (c .before .yearless .ensures) (the tie.After-years (search needs) .years .ensures) (c .if1 .taken)
 
 returns-2 : tie.Need-returns-2
 returns-2 c =
-    let after-yearless : tie.After-yearless = search needs in let after-years : tie.After-years = search needs in
-    years-none _ _ _ (after-yearless .yearless .ensures) (after-years .years .ensures) (c .before .if1 .left) (c .if2 .taken)
+    let after-years : tie.After-years = search needs in
+    years-none _ _ _ (the tie.After-yearless (search needs) .yearless .ensures) (after-years .years .ensures) (c .before .if1 .left) (c .if2 .taken)
 
 returns-3 : tie.Need-returns-3
 returns-3 c =
-    let after-yearless : tie.After-yearless = search needs in let after-years : tie.After-years = search needs in
-    years-fall _ _ _ (after-yearless .yearless .ensures) (after-years .years .ensures) (c .before .if1 .left)
+    years-fall _ _ _ (the tie.After-yearless (search needs) .yearless .ensures) (the tie.After-years (search needs) .years .ensures) (c .before .if1 .left)
 
 pub next-years-spec : {M : Type 1} → statement M
 next-years-spec =

@@ -1,5 +1,5 @@
 -- `locks::add_holder_locks` meets its contract: after i interties the draft has the holder's locks on them.
-use Rattle.base.proofs.Prelude.{ℕ, _+_, _-_, _*_, _≤_, _≡_, sym, ap, _∙_, List, arith, now, needs}
+use Rattle.base.proofs.Prelude.{the, ℕ, _+_, _-_, _*_, _≤_, _≡_, sym, ap, _∙_, List, arith, now, needs}
 use native.Mathlib.Nat.{le-antisymm}
 use Rattle.state.specs.Layout.{interties}
 use Rattle.carrying.specs.Line.{Line}
@@ -28,14 +28,12 @@ loop-holds c =
 
 add-lock-requires : tie.Need-add-lock-requires Inv-loop μ-loop
 add-lock-requires c κs =
-    let start : tie.Start Inv-loop μ-loop = search needs in
-    let at-loop : tie.At-loop Inv-loop μ-loop = search needs in
-    (start .pre .0, search needs, at-loop .loop .inv .1)
+    (the (tie.Start Inv-loop μ-loop) (search needs) .pre .0, search needs, the (tie.At-loop Inv-loop μ-loop) (search needs) .loop .inv .1)
 
 loop-again : tie.Need-loop-again Inv-loop μ-loop
 loop-again c =
     let at-loop : tie.At-loop Inv-loop μ-loop = search needs in
-    let start : tie.Start Inv-loop μ-loop = search needs in let a = start .args in
+    let a = the (tie.Start Inv-loop μ-loop) (search needs) .args in
     let i = at-loop .loop .intertie in (
       search needs,
       bounded-up _ _ (1024 + 48 * a .holder + i + 1) (1024 + 48 * a .holder + (i + 1)) (omega arith) (c .add-lock .ensures .0),

@@ -1,5 +1,5 @@
 -- `locks::add_locks` meets its contract: after h holders the draft has their locks.
-use Rattle.base.proofs.Prelude.{ℕ, _+_, _-_, _*_, _≤_, _≡_, sym, ap, _∙_, List, arith, now, needs}
+use Rattle.base.proofs.Prelude.{the, ℕ, _+_, _-_, _*_, _≤_, _≡_, sym, ap, _∙_, List, arith, now, needs}
 use native.Mathlib.Nat.{le-antisymm}
 use Rattle.state.specs.Layout.{interties, holders}
 use Rattle.carrying.specs.Line.{Line}
@@ -29,16 +29,15 @@ loop-holds c =
 add-holder-locks-requires : tie.Need-add-holder-locks-requires Inv-loop μ-loop
 add-holder-locks-requires c κs =
     let start : tie.Start Inv-loop μ-loop = search needs in
-    let in-loop : tie.In-loop Inv-loop μ-loop = search needs in
     let after-word : tie.After-word Inv-loop μ-loop = search needs in
     let at-loop : tie.At-loop Inv-loop μ-loop = search needs in
     let few : holders (now (start .args .state)) ≤ 32 = start .pre .1 in
-    (omega (arith, in-loop .loop-test .taken, after-word .word .ensures), start .pre .0, at-loop .loop .inv .1)
+    (omega (arith, the (tie.In-loop Inv-loop μ-loop) (search needs) .loop-test .taken, after-word .word .ensures), start .pre .0, at-loop .loop .inv .1)
 
 loop-again : tie.Need-loop-again Inv-loop μ-loop
 loop-again c =
     let at-loop : tie.At-loop Inv-loop μ-loop = search needs in
-    let start : tie.Start Inv-loop μ-loop = search needs in let a = start .args in
+    let a = the (tie.Start Inv-loop μ-loop) (search needs) .args in
     let h = at-loop .loop .holder in (
       search needs,
       c .add-holder-locks .ensures .0,

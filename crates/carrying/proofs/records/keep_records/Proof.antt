@@ -1,5 +1,5 @@
 -- `records::keep_records` meets its contract: after k records the draft is what is kept of them. The measure is the records still to come.
-use Rattle.base.proofs.Prelude.{_-_, _≤_, _≡_, refl, sym, ap, _∙_, [], arith, replicate, now, needs}
+use Rattle.base.proofs.Prelude.{the, _-_, _≤_, _≡_, refl, sym, ap, _∙_, [], arith, replicate, now, needs}
 use native.Mathlib.Nat.{le-antisymm}
 use Rattle.sheet_records.specs.Sheet.{count}
 use Rattle.sheet_records.proofs.RefusalLaws.{whole}
@@ -47,16 +47,10 @@ keep-record-requires c κs =
     let at-loop : tie.At-loop Inv-loop μ-loop = search needs in
     kept-room _ _ _ (now (entry at-loop .args .sheet)) _ _ (at-loop .loop .inv .1) (here after-read .inside) (whole _ _ (entry at-loop .pre .0) refl .few)
 
-loop-less : tie.Need-loop-less Inv-loop μ-loop
-loop-less c =
-    let after-read : tie.After-read Inv-loop μ-loop = search needs in
-    omega (arith, here after-read)
-
 loop-again : tie.Need-loop-again Inv-loop μ-loop
 loop-again c =
-    let after-read : tie.After-read Inv-loop μ-loop = search needs in
     let at-loop : tie.At-loop Inv-loop μ-loop = search needs in
-    let found = here after-read in
+    let found = here (the (tie.After-read Inv-loop μ-loop) (search needs)) in
     let sheet = now (entry at-loop .args .sheet) in (
       omega (arith, found),
       kept-next _ _ _ sheet _ _ _ _ _ (found .key-is) (found .kw-is) (found .next-is) (c .keep-record .ensures (kept sheet (at-loop .loop .cursor .at)) (at-loop .loop .inv .1)),
@@ -74,4 +68,6 @@ returns c =
 pub keep-records-spec : {M : Type 1} → statement M
 keep-records-spec =
     tie.close (tie.spec Inv-loop μ-loop (λ c κs. search needs) (λ c. search needs) (λ c κs. search needs) loop-holds
-    (λ c κs. search needs) (λ c. search needs) keep-record-requires loop-less loop-again (λ c. search needs) returns)
+    (λ c κs. search needs) (λ c. search needs) keep-record-requires
+    (λ c. omega (arith, here (the (tie.After-read Inv-loop μ-loop) (search needs)))) loop-again (λ c. search needs)
+    returns)

@@ -1,5 +1,5 @@
 -- `records::raised` meets its contract: the higher of the two ranks (`KeyLaws`).
-use Rattle.base.proofs.Prelude.{needs}
+use Rattle.base.proofs.Prelude.{the, needs}
 use Rattle.carrying.proofs.KeyLaws.{rank-stays, rank-above, rank-raised}
 use Rattle.carrying.proofs.records.raised.Statement.{statement}
 use Rattle.carrying.proofs.records.raised.Tie as tie
@@ -9,13 +9,11 @@ returns c = rank-stays _ _ _ (c .before .kind .ensures) (c .if1 .taken)
 
 returns-2 : tie.Need-returns-2
 returns-2 c =
-    let after-kind : tie.After-kind = search needs in let else1 : tie.Else1 = search needs in
-    rank-above _ _ _ (after-kind .kind .ensures) _ (else1 .if1 .left) (c .before .rank .ensures) (c .if2 .taken)
+    rank-above _ _ _ (the tie.After-kind (search needs) .kind .ensures) _ (the tie.Else1 (search needs) .if1 .left) (c .before .rank .ensures) (c .if2 .taken)
 
 returns-3 : tie.Need-returns-3
 returns-3 c =
-    let after-kind : tie.After-kind = search needs in let else1 : tie.Else1 = search needs in
-    rank-raised _ _ _ (after-kind .kind .ensures) _ (else1 .if1 .left) (c .before .rank .ensures) (c .if2 .left)
+    rank-raised _ _ _ (the tie.After-kind (search needs) .kind .ensures) _ (the tie.Else1 (search needs) .if1 .left) (c .before .rank .ensures) (c .if2 .left)
 
 pub raised-spec : {M : Type 1} → statement M
 raised-spec =

@@ -1,12 +1,9 @@
 -- `write_state` meets its contract: store by store it is the state after the closing.
-use Rattle.base.proofs.Prelude.{now, needs}
+use Rattle.base.proofs.Prelude.{the, now, needs}
 use Rattle.state.proofs.OrderlyLaws.{refusal-none}
 use Rattle.closing.proofs.ClosedLaws.{state-is}
 use Rattle.closing.proofs.applying.write_state.Statement.{statement}
 use Rattle.closing.proofs.applying.write_state.Tie as tie
-
-abbrev the : (A : Type 0) → A → A
-the A x = x
 
 returns : tie.Need-returns
 returns c =

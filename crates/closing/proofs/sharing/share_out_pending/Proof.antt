@@ -1,14 +1,11 @@
 -- `share_out_pending` meets its contract: pools, claims and weights are the state's, and the share-outs are those of the closing.
-use Rattle.base.proofs.Prelude.{ℕ, List, length, replicate, sym, ap, _∙_, _≤_, arith, now, needs}
+use Rattle.base.proofs.Prelude.{the, ℕ, List, length, replicate, sym, ap, _∙_, _≤_, arith, now, needs}
 use Rattle.state.proofs.OrderlyLaws.{refusal-none}
 use Rattle.closing.proofs.TableLaws.{length-zeros}
 use Rattle.weights.proofs.WeightLaws.{weighed-is, weighed-length}
 use Rattle.closing.proofs.SharingLaws.{pending-shared}
 use Rattle.closing.proofs.sharing.share_out_pending.Statement.{statement}
 use Rattle.closing.proofs.sharing.share_out_pending.Tie as tie
-
-abbrev the : (A : Type 0) → A → A
-the A x = x
 
 read-row-requires : tie.Need-read-row-requires
 read-row-requires c κs =

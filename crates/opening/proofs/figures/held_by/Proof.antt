@@ -1,11 +1,8 @@
 -- `held_by` meets its contract: three sums along the holder's rows (`FigureLaws`).
-use Rattle.base.proofs.Prelude.{_+_, _*_, refl, arith, now, needs}
+use Rattle.base.proofs.Prelude.{the, _+_, _*_, refl, arith, now, needs}
 use Rattle.opening.proofs.FigureLaws.{part-sum}
 use Rattle.opening.proofs.figures.held_by.Statement.{statement}
 use Rattle.opening.proofs.figures.held_by.Tie as tie
-
-abbrev the : (A : Type 0) → A → A
-the A x = x
 
 add-result : tie.Need-add-result
 add-result c =

@@ -1,11 +1,8 @@
 -- `steps_2_to_7` meets its contract: each step is handed what the one before left (`OpenLaws`).
-use Rattle.base.proofs.Prelude.{_≡_, sym, length, now, needs}
+use Rattle.base.proofs.Prelude.{the, _≡_, sym, length, now, needs}
 use Rattle.opening.proofs.OpenLaws.{front-size, total-is, quantities-are, pre-ra-size, new-use-size, held-given, year-opened}
 use Rattle.opening.proofs.year.steps_2_to_7.Statement.{statement}
 use Rattle.opening.proofs.year.steps_2_to_7.Tie as tie
-
-abbrev the : (A : Type 0) → A → A
-the A x = x
 
 slice-aggregate-steps-5-to-7 : tie.Need-slice-aggregate-steps-5-to-7
 slice-aggregate-steps-5-to-7 c =

@@ -1,5 +1,5 @@
 -- `orderly::balance::add_by_two` meets its contract. The invariant: the holders passed are added.
-use Rattle.base.proofs.Prelude.{_-_, _*_, _≤_, arith, needs}
+use Rattle.base.proofs.Prelude.{the, _-_, _*_, _≤_, arith, needs}
 use Rattle.orderly.specs.Workers.Check.{Added}
 use Rattle.orderly.proofs.BalanceLaws.{added-none, added-two, added-same}
 use Rattle.orderly.proofs.balance.add_by_two.Statement.{statement}
@@ -12,15 +12,12 @@ abbrev μ-loop : tie.MeasureT-loop
 μ-loop state sums₀ bits₀ two₀ two-end sums bits two = two-end - two
 
 loop-holds : tie.Need-loop-holds Inv-loop μ-loop
-loop-holds c =
-    let start : tie.Start Inv-loop μ-loop = search needs in
-    (omega arith, added-none _ _ (start .pre .1))
+loop-holds c = (omega arith, added-none _ _ (the (tie.Start Inv-loop μ-loop) (search needs) .pre .1))
 
 loop-again : tie.Need-loop-again Inv-loop μ-loop
 loop-again c =
-    let at-loop : tie.At-loop Inv-loop μ-loop = search needs in
-    let start : tie.Start Inv-loop μ-loop = search needs in let a = start .args in
-    let l = at-loop .loop in
+    let a = the (tie.Start Inv-loop μ-loop) (search needs) .args in
+    let l = the (tie.At-loop Inv-loop μ-loop) (search needs) .loop in
     (omega arith, added-two (a .state .now) (l .sums) _ (l .two) (l .bits) (c .add-two .result) (omega arith) (l .inv .1) (c .add-two .ensures .0) (c .add-two .ensures .1))
 
 returns : tie.Need-returns Inv-loop μ-loop

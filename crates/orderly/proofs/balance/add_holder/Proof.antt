@@ -1,5 +1,5 @@
 -- `orderly::balance::add_holder` meets its contract. The invariant: the sums of the interties passed are filled, and the bits of their pairs are together.
-use Rattle.base.proofs.Prelude.{ℕ, _+_, _-_, _%_, _^_, _≤_, _≡_, refl, arith, ltb, needs, allTo, at, fill}
+use Rattle.base.proofs.Prelude.{the, ℕ, _+_, _-_, _%_, _^_, _≤_, _≡_, refl, arith, ltb, needs, allTo, at, fill}
 use Rattle.base.proofs.SumLaws.{all-done}
 use Rattle.base.proofs.WordLaws.{fill-place, fill-turn, fill-done}
 use Rattle.orderly.specs.Workers.Check.{pairKw, pairFits}
@@ -22,11 +22,9 @@ loop-holds c = (omega arith, refl, refl)
 
 loop-again : tie.Need-loop-again Inv-loop μ-loop
 loop-again c =
-    let at-loop : tie.At-loop Inv-loop μ-loop = search needs in
-    let start : tie.Start Inv-loop μ-loop = search needs in
     let after-pair-bits : tie.After-pair-bits Inv-loop μ-loop = search needs in
-    let l = at-loop .loop in
-    let kept : at (l .sums) (l .intertie) ≡ at (start .args .sums .now) (l .intertie) = fill-place _ _ _ _ (l .inv .2) in
+    let l = the (tie.At-loop Inv-loop μ-loop) (search needs) .loop in
+    let kept : at (l .sums) (l .intertie) ≡ at (the (tie.Start Inv-loop μ-loop) (search needs) .args .sums .now) (l .intertie) = fill-place _ _ _ _ (l .inv .2) in
     (omega arith, bits-turn _ _ (l .bits) (after-pair-bits .pair-bits .result) (l .inv .1) (after-pair-bits .pair-bits .ensures), fill-turn _ _ _ _ _ (l .inv .2) (cc (kept, c .before .pair-kw .ensures, c .wrapping-add-u32 .ensures)))
 
 returns : tie.Need-returns Inv-loop μ-loop
@@ -36,6 +34,6 @@ returns c =
 
 pub add-holder-spec : {M : Type 1} → statement M
 add-holder-spec =
-    tie.close (tie.spec Inv-loop μ-loop (λ c κs. search needs) (λ c. search needs) loop-holds (λ c κs. search needs) (λ c. omega arith)
-    (λ c. omega arith) (λ c κs. search needs) (λ c κs. search needs) (λ c. omega arith) (λ c. omega arith)
-    (λ c. omega arith) (λ c. omega arith) loop-again returns)
+    tie.close (tie.spec Inv-loop μ-loop (λ c κs. search needs) (λ c. search needs) loop-holds (λ c κs. search needs)
+    (λ c. omega arith) (λ c. omega arith) (λ c κs. search needs) (λ c κs. search needs) (λ c. omega arith)
+    (λ c. omega arith) (λ c. omega arith) (λ c. omega arith) loop-again returns)

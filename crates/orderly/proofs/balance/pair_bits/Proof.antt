@@ -1,22 +1,18 @@
 -- `orderly::balance::pair_bits` meets its contract.
-use Rattle.base.proofs.Prelude.{needs}
+use Rattle.base.proofs.Prelude.{the, needs}
 use Rattle.orderly.proofs.BalanceLaws.{pair-bits-tell}
 use Rattle.orderly.proofs.balance.pair_bits.Statement.{statement}
 use Rattle.orderly.proofs.balance.pair_bits.Tie as tie
 
 returns : tie.Need-returns
 returns c =
-    let after-row-word : tie.After-row-word = search needs in let start : tie.Start = search needs in
-    let after-row-word2 : tie.After-row-word2 = search needs in
-    let after-row-word3 : tie.After-row-word3 = search needs in
-    let after-row-word4 : tie.After-row-word4 = search needs in
     let read = c .before in
-    let a = start .args in
+    let a = the tie.Start (search needs) .args in
     pair-bits-tell (a .state .now) (a .holder) (a .intertie)
-    (after-row-word .row-word .ensures)
-    (after-row-word2 .row-word2 .ensures)
-    (after-row-word3 .row-word3 .ensures)
-    (after-row-word4 .row-word4 .ensures)
+    (the tie.After-row-word (search needs) .row-word .ensures)
+    (the tie.After-row-word2 (search needs) .row-word2 .ensures)
+    (the tie.After-row-word3 (search needs) .row-word3 .ensures)
+    (the tie.After-row-word4 (search needs) .row-word4 .ensures)
     (read .row-word5 .ensures)
     (c .pair-kw .ensures)
 

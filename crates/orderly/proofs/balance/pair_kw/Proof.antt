@@ -1,27 +1,20 @@
 -- `orderly::balance::pair_kw` meets its contract.
-use Rattle.base.proofs.Prelude.{needs}
+use Rattle.base.proofs.Prelude.{the, needs}
 use Rattle.orderly.proofs.BalanceLaws.{pair-kw-wraps}
 use Rattle.orderly.proofs.balance.pair_kw.Statement.{statement}
 use Rattle.orderly.proofs.balance.pair_kw.Tie as tie
 
 returns : tie.Need-returns
 returns c =
-    let after-wrapping-add-u322 : tie.After-wrapping-add-u322 = search needs in
-    let after-row-word5 : tie.After-row-word5 = search needs in
-    let after-row-word : tie.After-row-word = search needs in
-    let after-row-word2 : tie.After-row-word2 = search needs in
-    let after-row-word3 : tie.After-row-word3 = search needs in
-    let after-row-word4 : tie.After-row-word4 = search needs in
-    let after-wrapping-add-u32 : tie.After-wrapping-add-u32 = search needs in
-    let start : tie.Start = search needs in let a = start .args in
+    let a = the tie.Start (search needs) .args in
     pair-kw-wraps (a .state .now) (a .holder) (a .intertie)
-    (after-row-word .row-word .ensures)
-    (after-row-word2 .row-word2 .ensures)
-    (after-row-word3 .row-word3 .ensures)
-    (after-row-word4 .row-word4 .ensures)
-    (after-row-word5 .row-word5 .ensures)
-    (after-wrapping-add-u32 .wrapping-add-u32 .ensures)
-    (after-wrapping-add-u322 .wrapping-add-u322 .ensures)
+    (the tie.After-row-word (search needs) .row-word .ensures)
+    (the tie.After-row-word2 (search needs) .row-word2 .ensures)
+    (the tie.After-row-word3 (search needs) .row-word3 .ensures)
+    (the tie.After-row-word4 (search needs) .row-word4 .ensures)
+    (the tie.After-row-word5 (search needs) .row-word5 .ensures)
+    (the tie.After-wrapping-add-u32 (search needs) .wrapping-add-u32 .ensures)
+    (the tie.After-wrapping-add-u322 (search needs) .wrapping-add-u322 .ensures)
     (c .before .wrapping-add-u323 .ensures)
     (c .wrapping-add-u324 .ensures)
 

@@ -1,14 +1,13 @@
 -- `orderly::fields::sizes_in_range` meets its contract.
-use Rattle.base.proofs.Prelude.{needs}
+use Rattle.base.proofs.Prelude.{the, needs}
 use Rattle.orderly.proofs.CheckLaws.{sizes-are}
 use Rattle.orderly.proofs.fields.sizes_in_range.Statement.{statement}
 use Rattle.orderly.proofs.fields.sizes_in_range.Tie as tie
 
 returns : tie.Need-returns
 returns c =
-    let start : tie.Start = search needs in let after-intertie-count : tie.After-intertie-count = search needs in
-    sizes-are (start .args .state .now)
-    (after-intertie-count .intertie-count .ensures)
+    sizes-are (the tie.Start (search needs) .args .state .now)
+    (the tie.After-intertie-count (search needs) .intertie-count .ensures)
     (c .before .holder-count .ensures)
     (c .stage .ensures)
 

@@ -1,5 +1,5 @@
 -- `orderly::locks::has_no_lock` meets its contract. The invariant: the bits of the pairs passed are 0 where these pairs have no lock.
-use Rattle.base.proofs.Prelude.{ℕ, _-_, _≤_, _≡_, refl, arith, eqb, needs, allTo}
+use Rattle.base.proofs.Prelude.{the, ℕ, _-_, _≤_, _≡_, refl, arith, eqb, needs, allTo}
 use Rattle.base.proofs.SumLaws.{all-done}
 use Rattle.orderly.specs.Workers.Check.{unlocked}
 use Rattle.orderly.proofs.CheckLaws.{unlocked-turn}
@@ -19,10 +19,8 @@ loop-holds c = (omega arith, refl)
 
 loop-again : tie.Need-loop-again Inv-loop μ-loop
 loop-again c =
-    let at-loop : tie.At-loop Inv-loop μ-loop = search needs in
-    let start : tie.Start Inv-loop μ-loop = search needs in
-    let l = at-loop .loop in
-    let a = start .args in
+    let l = the (tie.At-loop Inv-loop μ-loop) (search needs) .loop in
+    let a = the (tie.Start Inv-loop μ-loop) (search needs) .args in
     (omega arith, unlocked-turn (a .state .now) (a .holder) (l .intertie) (l .bits) _ _ (l .inv .1) (c .before .row-word .ensures) (c .row-word2 .ensures))
 
 returns : tie.Need-returns Inv-loop μ-loop
@@ -30,5 +28,6 @@ returns c = all-done _ _ _ _ (c .before .loop .inv .1) (omega arith) (omega arit
 
 pub has-no-lock-spec : {M : Type 1} → statement M
 has-no-lock-spec =
-    tie.close (tie.spec Inv-loop μ-loop (λ c κs. search needs) (λ c. search needs) loop-holds (λ c. omega arith) (λ c κs. search needs)
-    (λ c. omega arith) (λ c κs. search needs) (λ c. omega arith) (λ c. omega arith) loop-again returns)
+    tie.close (tie.spec Inv-loop μ-loop (λ c κs. search needs) (λ c. search needs) loop-holds (λ c. omega arith)
+    (λ c κs. search needs) (λ c. omega arith) (λ c κs. search needs) (λ c. omega arith) (λ c. omega arith) loop-again
+    returns)

@@ -1,5 +1,5 @@
 -- `orderly::locks::locks_in_order` meets its contract. The invariant: the locks of the holders passed are tested.
-use Rattle.base.proofs.Prelude.{ℕ, _-_, _≤_, _≡_, _∙_, arith, needs, allTo}
+use Rattle.base.proofs.Prelude.{the, ℕ, _-_, _≤_, _≡_, _∙_, arith, needs, allTo}
 use Rattle.base.proofs.SumLaws.{all-more, all-done}
 use Rattle.state.specs.Layout.{interties}
 use Rattle.orderly.specs.Workers.Check.{pairLockFits}
@@ -21,13 +21,11 @@ loop-holds c = search needs
 
 loop-again : tie.Need-loop-again Inv-loop μ-loop
 loop-again c =
-    let at-loop : tie.At-loop Inv-loop μ-loop = search needs in
-    (omega arith, all-more _ _ _ _ (at-loop .loop .inv .1) (c .holder-locks-in-order .ensures))
+    (omega arith, all-more _ _ _ _ (the (tie.At-loop Inv-loop μ-loop) (search needs) .loop .inv .1) (c .holder-locks-in-order .ensures))
 
 returns : tie.Need-returns Inv-loop μ-loop
 returns c =
-    let start : tie.Start Inv-loop μ-loop = search needs in
-    all-done _ _ _ _ (c .before .loop .inv .1) (omega arith) (omega arith) ∙ locks-are (start .args .state .now)
+    all-done _ _ _ _ (c .before .loop .inv .1) (omega arith) (omega arith) ∙ locks-are (the (tie.Start Inv-loop μ-loop) (search needs) .args .state .now)
 
 pub locks-in-order-spec : {M : Type 1} → statement M
 locks-in-order-spec =

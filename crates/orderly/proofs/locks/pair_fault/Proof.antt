@@ -1,17 +1,15 @@
 -- `orderly::locks::pair_fault` meets its contract.
-use Rattle.base.proofs.Prelude.{needs}
+use Rattle.base.proofs.Prelude.{the, needs}
 use Rattle.orderly.proofs.CheckLaws.{pair-fault-is}
 use Rattle.orderly.proofs.locks.pair_fault.Statement.{statement}
 use Rattle.orderly.proofs.locks.pair_fault.Tie as tie
 
 returns : tie.Need-returns
 returns c =
-    let after-row-word : tie.After-row-word = search needs in
-    let after-row-word2 : tie.After-row-word2 = search needs in
-    let start : tie.Start = search needs in let a = start .args in
+    let a = the tie.Start (search needs) .args in
     pair-fault-is (a .state .now) (a .holder) (a .intertie)
-    (after-row-word .row-word .ensures)
-    (after-row-word2 .row-word2 .ensures)
+    (the tie.After-row-word (search needs) .row-word .ensures)
+    (the tie.After-row-word2 (search needs) .row-word2 .ensures)
     (c .before .row-word3 .ensures)
     (c .lock-fault .ensures)
 

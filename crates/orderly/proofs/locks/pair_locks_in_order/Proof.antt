@@ -1,5 +1,5 @@
 -- `orderly::locks::pair_locks_in_order` meets its contract. The invariant: the faults of the interties passed are counted.
-use Rattle.base.proofs.Prelude.{ℕ, _-_, _≤_, _≡_, arith, needs}
+use Rattle.base.proofs.Prelude.{the, ℕ, _-_, _≤_, _≡_, arith, needs}
 use Rattle.base.proofs.TestLaws.{faultsTo, faults-zero, faults-turn, faults-turn-most, faults-end}
 use Rattle.orderly.specs.Workers.Check.{pairLockFits}
 use Rattle.orderly.proofs.locks.pair_locks_in_order.Statement.{statement}
@@ -17,18 +17,16 @@ loop-holds c = (omega arith, faults-zero _)
 
 add-faults : tie.Need-add-faults Inv-loop μ-loop
 add-faults c =
-    let at-loop : tie.At-loop Inv-loop μ-loop = search needs in
-    omega (arith, faults-turn-most _ _ (at-loop .loop .inv .1) (c .pair-fault .ensures))
+    omega (arith, faults-turn-most _ _ (the (tie.At-loop Inv-loop μ-loop) (search needs) .loop .inv .1) (c .pair-fault .ensures))
 
 loop-again : tie.Need-loop-again Inv-loop μ-loop
 loop-again c =
-    let at-loop : tie.At-loop Inv-loop μ-loop = search needs in
-    (omega arith, faults-turn _ _ (at-loop .loop .inv .1) (c .pair-fault .ensures))
+    (omega arith, faults-turn _ _ (the (tie.At-loop Inv-loop μ-loop) (search needs) .loop .inv .1) (c .pair-fault .ensures))
 
 returns : tie.Need-returns Inv-loop μ-loop
 returns c = faults-end _ _ _ (c .before .loop .inv .1) (omega arith) (omega arith)
 
 pub pair-locks-in-order-spec : {M : Type 1} → statement M
 pair-locks-in-order-spec =
-    tie.close (tie.spec Inv-loop μ-loop (λ c κs. search needs) (λ c. search needs) loop-holds (λ c κs. search needs) add-faults
-    (λ c. omega arith) (λ c. omega arith) loop-again returns)
+    tie.close (tie.spec Inv-loop μ-loop (λ c κs. search needs) (λ c. search needs) loop-holds (λ c κs. search needs)
+    add-faults (λ c. omega arith) (λ c. omega arith) loop-again returns)

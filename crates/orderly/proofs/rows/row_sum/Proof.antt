@@ -1,5 +1,5 @@
 -- `orderly::rows::row_sum` meets its contract. The invariant: the words passed are added, each below 2 ^ 32.
-use Rattle.base.proofs.Prelude.{ℕ, _-_, _*_, _≤_, _≡_, arith, needs, sumTo, at}
+use Rattle.base.proofs.Prelude.{the, ℕ, _-_, _*_, _≤_, _≡_, arith, needs, sumTo, at}
 use Rattle.base.proofs.SumLaws.{sum-more, sum-done}
 use Rattle.state.specs.Layout.{place}
 use Rattle.orderly.proofs.rows.row_sum.Statement.{statement}
@@ -18,8 +18,7 @@ loop-holds c = search needs
 
 loop-again : tie.Need-loop-again Inv-loop μ-loop
 loop-again c =
-    let at-loop : tie.At-loop Inv-loop μ-loop = search needs in
-    (omega arith, omega arith, sum-more _ _ _ _ (at-loop .loop .inv .2) (c .row-word .ensures))
+    (omega arith, omega arith, sum-more _ _ _ _ (the (tie.At-loop Inv-loop μ-loop) (search needs) .loop .inv .2) (c .row-word .ensures))
 
 returns : tie.Need-returns Inv-loop μ-loop
 returns c = sum-done _ _ _ _ (c .before .loop .inv .2) (c .before .loop .inv .0) (c .loop-test .left)

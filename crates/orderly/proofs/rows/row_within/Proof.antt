@@ -1,5 +1,5 @@
 -- `orderly::rows::row_within` meets its contract. The invariant: the faults of the words passed are counted.
-use Rattle.base.proofs.Prelude.{ℕ, _-_, _≤_, _≡_, arith, leb, needs, at}
+use Rattle.base.proofs.Prelude.{the, ℕ, _-_, _≤_, _≡_, arith, leb, needs, at}
 use Rattle.base.proofs.TestLaws.{faultsTo, faults-zero, faults-turn, faults-turn-most, faults-end}
 use Rattle.state.specs.Layout.{place}
 use Rattle.orderly.proofs.rows.row_within.Statement.{statement}
@@ -17,13 +17,10 @@ loop-holds c = (omega arith, faults-zero _)
 
 add-faults : tie.Need-add-faults Inv-loop μ-loop
 add-faults c =
-    let at-loop : tie.At-loop Inv-loop μ-loop = search needs in
-    omega (arith, faults-turn-most _ _ {f = c .above .result} (at-loop .loop .inv .1) (cc))
+    omega (arith, faults-turn-most _ _ {f = c .above .result} (the (tie.At-loop Inv-loop μ-loop) (search needs) .loop .inv .1) (cc))
 
 loop-again : tie.Need-loop-again Inv-loop μ-loop
-loop-again c =
-    let at-loop : tie.At-loop Inv-loop μ-loop = search needs in
-    (omega arith, faults-turn _ _ (at-loop .loop .inv .1) (cc))
+loop-again c = (omega arith, faults-turn _ _ (the (tie.At-loop Inv-loop μ-loop) (search needs) .loop .inv .1) (cc))
 
 returns : tie.Need-returns Inv-loop μ-loop
 returns c = faults-end _ _ _ (c .before .loop .inv .1) (c .before .loop .inv .0) (c .loop-test .left)

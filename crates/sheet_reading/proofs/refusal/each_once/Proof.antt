@@ -1,5 +1,5 @@
 -- `sheet_reading::refusal::each_once` meets its contract: after i turns the test of the first i slots. The measure is the slots still to come.
-use Rattle.base.proofs.Prelude.{_-_, _≤_, zero-le, _≡_, refl, sym, eqb, needs, allTo, at}
+use Rattle.base.proofs.Prelude.{the, _-_, _≤_, zero-le, _≡_, refl, sym, eqb, needs, allTo, at}
 use Rattle.base.proofs.SumLaws.{allTo-zero, all-more, all-done}
 use Rattle.sheet_reading.proofs.refusal.each_once.Statement.{statement}
 use Rattle.sheet_reading.proofs.refusal.each_once.Tie as tie
@@ -14,9 +14,7 @@ loop-holds : tie.Need-loop-holds Inv-loop μ-loop
 loop-holds c = (zero-le, sym (allTo-zero _))
 
 loop-again : tie.Need-loop-again Inv-loop μ-loop
-loop-again c =
-    let at-loop : tie.At-loop Inv-loop μ-loop = search needs in
-    (search needs, all-more _ _ _ _ (at-loop .loop .inv .1) refl)
+loop-again c = (search needs, all-more _ _ _ _ (the (tie.At-loop Inv-loop μ-loop) (search needs) .loop .inv .1) refl)
 
 returns : tie.Need-returns Inv-loop μ-loop
 returns c = all-done _ _ _ _ (c .before .loop .inv .1) (c .before .loop .inv .0) (c .loop-test .left)

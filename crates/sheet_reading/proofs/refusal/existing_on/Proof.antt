@@ -1,5 +1,5 @@
 -- `sheet_reading::refusal::existing_on` meets its contract: after h turns the sum over the first h holders. The measure is the holders still to come.
-use Rattle.base.proofs.Prelude.{ℕ, refl, _-_, _*_, _≤_, zero-le, _≡_, sym, arith, needs, at}
+use Rattle.base.proofs.Prelude.{the, ℕ, refl, _-_, _*_, _≤_, zero-le, _≡_, sym, arith, needs, at}
 use Rattle.sheet_reading.specs.Tables.{existingSlot}
 use Rattle.sheet_reading.specs.Workers.Deciding.{tableExistingOn}
 use Rattle.base.proofs.SumLaws.{sumTo-zero}
@@ -24,9 +24,7 @@ add-sum-3 c =
     omega (arith, sum-room 32 (at-loop .loop .h) (1024 * 4_294_967_295) f (λ k. start .pre .2 (existingSlot k (a .intertie))) (omega arith))
 
 loop-again : tie.Need-loop-again Inv-loop μ-loop
-loop-again c =
-    let at-loop : tie.At-loop Inv-loop μ-loop = search needs in
-    (search needs, sum-more _ _ _ _ (at-loop .loop .inv .1) refl)
+loop-again c = (search needs, sum-more _ _ _ _ (the (tie.At-loop Inv-loop μ-loop) (search needs) .loop .inv .1) refl)
 
 returns : tie.Need-returns Inv-loop μ-loop
 returns c = sum-done _ _ _ _ (c .before .loop .inv .1) (c .before .loop .inv .0) (c .loop-test .left)

@@ -1,5 +1,5 @@
 -- `sheet_reading::refusal::limits_hold` meets its contract: after i turns the test of the first i interties. The measure is the interties still to come.
-use Rattle.base.proofs.Prelude.{_-_, _≤_, zero-le, _≡_, sym, needs, allTo}
+use Rattle.base.proofs.Prelude.{the, _-_, _≤_, zero-le, _≡_, sym, needs, allTo}
 use Rattle.base.proofs.SumLaws.{allTo-zero, all-more, all-done}
 use Rattle.sheet_reading.specs.Workers.Deciding.{tableLimitHolds}
 use Rattle.sheet_reading.proofs.refusal.limits_hold.Statement.{statement}
@@ -16,8 +16,7 @@ loop-holds c = (zero-le, sym (allTo-zero _))
 
 loop-again : tie.Need-loop-again Inv-loop μ-loop
 loop-again c =
-    let at-loop : tie.At-loop Inv-loop μ-loop = search needs in
-    (search needs, all-more _ _ _ _ (at-loop .loop .inv .1) (c .limit-holds .ensures))
+    (search needs, all-more _ _ _ _ (the (tie.At-loop Inv-loop μ-loop) (search needs) .loop .inv .1) (c .limit-holds .ensures))
 
 returns : tie.Need-returns Inv-loop μ-loop
 returns c = all-done _ _ _ _ (c .before .loop .inv .1) (c .before .loop .inv .0) (c .loop-test .left)

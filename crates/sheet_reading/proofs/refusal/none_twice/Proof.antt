@@ -1,5 +1,5 @@
 -- `sheet_reading::refusal::none_twice` meets its contract: after j turns the test of the first j slots. The measure is the slots still to come.
-use Rattle.base.proofs.Prelude.{_+_, _-_, _≤_, zero-le, _≡_, refl, sym, leb, needs, allTo, at}
+use Rattle.base.proofs.Prelude.{the, _+_, _-_, _≤_, zero-le, _≡_, refl, sym, leb, needs, allTo, at}
 use Rattle.base.proofs.SumLaws.{allTo-zero, all-more, all-done}
 use Rattle.sheet_reading.proofs.refusal.none_twice.Statement.{statement}
 use Rattle.sheet_reading.proofs.refusal.none_twice.Tie as tie
@@ -14,9 +14,7 @@ loop-holds : tie.Need-loop-holds Inv-loop μ-loop
 loop-holds c = (zero-le, sym (allTo-zero _))
 
 loop-again : tie.Need-loop-again Inv-loop μ-loop
-loop-again c =
-    let at-loop : tie.At-loop Inv-loop μ-loop = search needs in
-    (search needs, all-more _ _ _ _ (at-loop .loop .inv .1) refl)
+loop-again c = (search needs, all-more _ _ _ _ (the (tie.At-loop Inv-loop μ-loop) (search needs) .loop .inv .1) refl)
 
 returns : tie.Need-returns Inv-loop μ-loop
 returns c = all-done _ _ _ _ (c .before .loop .inv .1) (c .before .loop .inv .0) (c .loop-test .left)

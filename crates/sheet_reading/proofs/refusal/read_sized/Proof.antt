@@ -1,5 +1,5 @@
 -- `sheet_reading::refusal::read_sized` meets its contract: what is decided from the filled tables is refusals 3 and 4 of the sheet.
-use Rattle.base.proofs.Prelude.{_≡_, refl, arith, now, needs}
+use Rattle.base.proofs.Prelude.{the, _≡_, refl, arith, now, needs}
 use borrow.Author.Tests.{not-true, not-false}
 use Rattle.sheet_records.specs.Sheet.{interties, holders}
 use Rattle.sheet_records.specs.Refusal.{rulesHold, limitsHold}
@@ -10,8 +10,7 @@ use Rattle.sheet_reading.proofs.refusal.read_sized.Tie as tie
 
 add-records-requires : tie.Need-add-records-requires
 add-records-requires c κs =
-    let start : tie.Start = search needs in
-    let pre = start .pre in
+    let pre = the tie.Start (search needs) .pre in
     (pre .0, pre .2, pre .3, pre .4)
 
 -- before the tables were filled: the test of each record, the two words that were read, and the function's entry
@@ -54,11 +53,10 @@ filledAt c = c .before .before .before .before
 -- the test of refusal 3 is that of the rules
 rules : (c : tie.After-limits-hold) → c .before .before .rules-hold .result ≡ rulesHold (now (entry (filledAt c) .args .sheet))
 rules c =
-    let after-rules-hold : tie.After-rules-hold = search needs in
     let filled = filledAt c in
     let pre = entry filled .pre in
     rules-decided _ (pre .0) (pre .1) _ _ (holders-read filled) (interties-read filled)
-    _ _ _ (tested filled .records-stand .ensures) (filled .add-records .ensures .0) (after-rules-hold .rules-hold .ensures)
+    _ _ _ (tested filled .records-stand .ensures) (filled .add-records .ensures .0) (the tie.After-rules-hold (search needs) .rules-hold .ensures)
 
 -- the test of refusal 4 is that of the limits
 limits : (c : tie.After-limits-hold) → c .limits-hold .result ≡ limitsHold (now (entry (filledAt c) .args .sheet))

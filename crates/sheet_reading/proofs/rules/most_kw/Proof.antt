@@ -1,5 +1,5 @@
 -- `sheet_reading::rules::most_kw` meets its contract: each arm of the match is the most of its kinds.
-use Rattle.base.proofs.Prelude.{needs, arith}
+use Rattle.base.proofs.Prelude.{the, needs, arith}
 use Rattle.base.proofs.Rules.{tests}
 use Rattle.sheet_reading.proofs.RuleLaws.{most-outside}
 use Rattle.sheet_reading.proofs.rules.most_kw.Statement.{statement}
@@ -9,9 +9,7 @@ returns : tie.Need-returns
 returns c = search tests
 
 returns-2 : tie.Need-returns-2
-returns-2 c =
-    let start : tie.Start = search needs in
-    most-outside (start .args .kind) (omega arith) (omega arith)
+returns-2 c = most-outside (the tie.Start (search needs) .args .kind) (omega arith) (omega arith)
 
 returns-3 : tie.Need-returns-3
 returns-3 c = search tests

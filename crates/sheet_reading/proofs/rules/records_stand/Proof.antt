@@ -1,6 +1,6 @@
 -- `sheet_reading::rules::records_stand` meets its contract: the tests of n records (`Tested`), of one more, and of all. The measure is the
 -- records still to come.
-use Rattle.base.proofs.Prelude.{_-_, arith, now, needs}
+use Rattle.base.proofs.Prelude.{the, _-_, arith, now, needs}
 use Rattle.sheet_records.specs.Sheet.{count}
 use Rattle.sheet_records.proofs.RefusalLaws.{long-enough}
 use Rattle.sheet_records.proofs.ReadingLaws.{RecordRead, read-next, read-end}
@@ -33,17 +33,11 @@ here c =
 loop-holds : tie.Need-loop-holds Inv-loop μ-loop
 loop-holds c = tested-none _ _ (c .first .ensures)
 
-loop-less : tie.Need-loop-less Inv-loop μ-loop
-loop-less c =
-    let after-read : tie.After-read Inv-loop μ-loop = search needs in
-    omega (arith, here after-read)
-
 loop-again : tie.Need-loop-again Inv-loop μ-loop
 loop-again c =
-    let after-read : tie.After-read Inv-loop μ-loop = search needs in
     let at-loop : tie.At-loop Inv-loop μ-loop = search needs in
     let sized : tie.After-holder-count Inv-loop μ-loop = search needs in
-    let now = here after-read in
+    let now = here (the (tie.After-read Inv-loop μ-loop) (search needs)) in
     tested-more _ _ _ (at-loop .loop .inv) _ _ _ _ _ _ (now .inside) (now .key-is) (now .kw-is)
     (long-enough _ _ _ (entry at-loop .pre) (sized .before .intertie-count .ensures))
     (long-enough _ _ _ (entry at-loop .pre) (sized .holder-count .ensures)) (c .record-stands .ensures) (now .next-is)
@@ -59,4 +53,5 @@ pub records-stand-spec : {M : Type 1} → statement M
 records-stand-spec =
     tie.close (tie.spec Inv-loop μ-loop (λ c κs. search needs) (λ c κs. search needs) (λ c κs. search needs)
     (λ c. search needs) (λ c κs. search needs) loop-holds (λ c κs. search needs) (λ c. search needs)
-    (λ c κs. search needs) loop-less loop-again (λ c. search needs) returns)
+    (λ c κs. search needs) (λ c. omega (arith, here (the (tie.After-read Inv-loop μ-loop) (search needs)))) loop-again
+    (λ c. search needs) returns)

@@ -1,5 +1,5 @@
 -- `sheet_reading::tables::add_records` meets its contract: after n records both tables have their amounts (`Added`), and after one more. The measure is the records still to come.
-use Rattle.base.proofs.Prelude.{_-_, _≤_, refl, arith, now, needs}
+use Rattle.base.proofs.Prelude.{the, _-_, _≤_, refl, arith, now, needs}
 use Rattle.sheet_records.specs.Sheet.{count}
 use Rattle.sheet_records.proofs.RefusalLaws.{whole}
 use Rattle.sheet_records.proofs.ReadingLaws.{RecordRead, read-next, read-end}
@@ -42,9 +42,8 @@ loop-holds c =
 
 element-copy-out-slot : tie.Need-element-copy-out-slot Inv-loop μ-loop
 element-copy-out-slot c =
-    let at-loop : tie.At-loop Inv-loop μ-loop = search needs in
     let found = c .before in
-    omega (arith, here found, whole _ _ (entry at-loop .pre .0) refl)
+    omega (arith, here found, whole _ _ (entry (the (tie.At-loop Inv-loop μ-loop) (search needs)) .pre .0) refl)
 
 add-at-requires : tie.Need-add-at-requires Inv-loop μ-loop
 add-at-requires c κs =
@@ -58,16 +57,10 @@ add-at-requires c κs =
       kw-room (now (entry at-loop .args .sheet)) (now (entry at-loop .args .found)) all _ more _ (at-loop .loop .inv .1) _ few (λ i. words at-loop .before .shared-slice-known .given i .fits) (here after-read .kw-is),
     )
 
-loop-less : tie.Need-loop-less Inv-loop μ-loop
-loop-less c =
-    let after-read : tie.After-read Inv-loop μ-loop = search needs in
-    omega (arith, here after-read)
-
 loop-again : tie.Need-loop-again Inv-loop μ-loop
 loop-again c =
-    let after-read : tie.After-read Inv-loop μ-loop = search needs in
     let at-loop : tie.At-loop Inv-loop μ-loop = search needs in
-    let now = here after-read in
+    let now = here (the (tie.After-read Inv-loop μ-loop) (search needs)) in
     let all = entry at-loop .pre .1 in (
       added-more (denote.Ref.now (entry at-loop .args .sheet)) (denote.Ref.now (entry at-loop .args .found)) all _ (now .inside) _ _ (at-loop .loop .inv .0) _ _ _ refl (c .add-at .ensures .0) (now .next-is),
       added-more (denote.Ref.now (entry at-loop .args .sheet)) (denote.Ref.now (entry at-loop .args .found)) all _ (now .inside) _ _ (at-loop .loop .inv .1) _ _ _ (now .kw-is) (c .add-at .ensures .1) (now .next-is),
@@ -82,6 +75,8 @@ returns c =
 
 pub add-records-spec : {M : Type 1} → statement M
 add-records-spec =
-    tie.close (tie.spec Inv-loop μ-loop (λ c κs. search needs) (λ c. search needs) (λ c κs. search needs)
-    loop-holds (λ c κs. search needs) (λ c. search needs) (λ c. let few = few-at (search needs) in search needs) element-copy-out-slot add-at-requires
-    loop-less loop-again (λ c. search needs) returns)
+    tie.close (tie.spec Inv-loop μ-loop (λ c κs. search needs) (λ c. search needs) (λ c κs. search needs) loop-holds
+    (λ c κs. search needs) (λ c. search needs) (λ c. let few = few-at (search needs) in search needs)
+    element-copy-out-slot add-at-requires
+    (λ c. omega (arith, here (the (tie.After-read Inv-loop μ-loop) (search needs)))) loop-again (λ c. search needs)
+    returns)

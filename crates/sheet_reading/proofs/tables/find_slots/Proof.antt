@@ -1,6 +1,6 @@
 -- `sheet_reading::tables::find_slots` meets its contract: the slots of n records (`Slotted`), of one more, and of all. The measure is the
 -- records still to come.
-use Rattle.base.proofs.Prelude.{_-_, _≤_, refl, arith, now, needs}
+use Rattle.base.proofs.Prelude.{the, _-_, _≤_, refl, arith, now, needs}
 use Rattle.sheet_records.specs.Sheet.{count}
 use Rattle.sheet_records.proofs.RefusalLaws.{whole}
 use Rattle.sheet_records.proofs.ReadingLaws.{RecordRead, read-next, read-end}
@@ -39,22 +39,13 @@ loop-holds c = slotted-none _ _ _ (c .first .ensures)
 
 element-write-found : tie.Need-element-write-found Inv-loop μ-loop
 element-write-found c =
-    let after-read : tie.After-read Inv-loop μ-loop = search needs in
-    let at-loop : tie.At-loop Inv-loop μ-loop = search needs in
-    let now = here after-read in
-    omega (arith, now .inside, whole _ _ (entry at-loop .pre .0) refl .few)
-
-loop-less : tie.Need-loop-less Inv-loop μ-loop
-loop-less c =
-    let after-read : tie.After-read Inv-loop μ-loop = search needs in
-    omega (arith, here after-read)
+    let now = here (the (tie.After-read Inv-loop μ-loop) (search needs)) in
+    omega (arith, now .inside, whole _ _ (entry (the (tie.At-loop Inv-loop μ-loop) (search needs)) .pre .0) refl .few)
 
 loop-again : tie.Need-loop-again Inv-loop μ-loop
 loop-again c =
-    let after-read : tie.After-read Inv-loop μ-loop = search needs in
-    let at-loop : tie.At-loop Inv-loop μ-loop = search needs in
-    let now = here after-read in
-    slotted-more _ _ _ _ (at-loop .loop .inv) _ _ _ (now .inside) (now .key-is) (c .slot-of .ensures) (now .next-is)
+    let now = here (the (tie.After-read Inv-loop μ-loop) (search needs)) in
+    slotted-more _ _ _ _ (the (tie.At-loop Inv-loop μ-loop) (search needs) .loop .inv) _ _ _ (now .inside) (now .key-is) (c .slot-of .ensures) (now .next-is)
 
 returns : tie.Need-returns Inv-loop μ-loop
 returns c =
@@ -65,6 +56,8 @@ returns c =
 
 pub find-slots-spec : {M : Type 1} → statement M
 find-slots-spec =
-    tie.close (tie.spec Inv-loop μ-loop (λ c κs. search needs) (λ c. search needs) (λ c κs. search needs)
-    loop-holds (λ c κs. search needs) (λ c. search needs) (λ c κs. search needs) (λ c. let few = few-at (search needs) in search needs)
-    element-write-found loop-less loop-again (λ c. search needs) returns)
+    tie.close (tie.spec Inv-loop μ-loop (λ c κs. search needs) (λ c. search needs) (λ c κs. search needs) loop-holds
+    (λ c κs. search needs) (λ c. search needs) (λ c κs. search needs)
+    (λ c. let few = few-at (search needs) in search needs) element-write-found
+    (λ c. omega (arith, here (the (tie.After-read Inv-loop μ-loop) (search needs)))) loop-again (λ c. search needs)
+    returns)

@@ -1,5 +1,5 @@
 -- `sheet_reading::tables::place_records` meets its contract: after n records the table has their interties (`Added`), and after one more. The measure is the records still to come.
-use Rattle.base.proofs.Prelude.{_-_, _≤_, refl, ap, _∙_, arith, now, needs}
+use Rattle.base.proofs.Prelude.{the, _-_, _≤_, refl, ap, _∙_, arith, now, needs}
 use Rattle.sheet_records.specs.Sheet.{count}
 use Rattle.sheet_records.proofs.RefusalLaws.{whole}
 use Rattle.sheet_records.proofs.ReadingLaws.{RecordRead, read-next, read-end}
@@ -37,15 +37,12 @@ here c =
     read-next _ _ _ (entry at-loop .pre .0) (words at-loop .record-count .ensures) _ (after-read-record .read-record .ensures) _ _ (c .read .given .1)
 
 loop-holds : tie.Need-loop-holds Inv-loop μ-loop
-loop-holds c =
-    let start : tie.Start Inv-loop μ-loop = search needs in
-    added-none _ _ _ _ (start .pre .2) (c .first .ensures)
+loop-holds c = added-none _ _ _ _ (the (tie.Start Inv-loop μ-loop) (search needs) .pre .2) (c .first .ensures)
 
 element-copy-out-slot : tie.Need-element-copy-out-slot Inv-loop μ-loop
 element-copy-out-slot c =
-    let at-loop : tie.At-loop Inv-loop μ-loop = search needs in
     let found = c .before in
-    omega (arith, here found, whole _ _ (entry at-loop .pre .0) refl)
+    omega (arith, here found, whole _ _ (entry (the (tie.At-loop Inv-loop μ-loop) (search needs)) .pre .0) refl)
 
 place-at-requires : tie.Need-place-at-requires Inv-loop μ-loop
 place-at-requires c κs =
@@ -57,17 +54,11 @@ place-at-requires c κs =
       tie-room (now (entry at-loop .args .sheet)) (now (entry at-loop .args .found)) all _ more _ (at-loop .loop .inv) _ (whole _ _ (entry at-loop .pre .0) refl .few) (c .before .intertie .ensures ∙ ap intertieOf (here after-read .key-is)),
     )
 
-loop-less : tie.Need-loop-less Inv-loop μ-loop
-loop-less c =
-    let after-read : tie.After-read Inv-loop μ-loop = search needs in
-    omega (arith, here after-read)
-
 loop-again : tie.Need-loop-again Inv-loop μ-loop
 loop-again c =
-    let after-read : tie.After-read Inv-loop μ-loop = search needs in
     let at-loop : tie.At-loop Inv-loop μ-loop = search needs in
     let after-intertie : tie.After-intertie Inv-loop μ-loop = search needs in
-    let now = here after-read in
+    let now = here (the (tie.After-read Inv-loop μ-loop) (search needs)) in
     let all = entry at-loop .pre .1 in
     added-more (denote.Ref.now (entry at-loop .args .sheet)) (denote.Ref.now (entry at-loop .args .found)) all _ (now .inside) _ _ (at-loop .loop .inv) _ _ _ (after-intertie .intertie .ensures ∙ ap intertieOf (now .key-is)) (c .place-at .ensures) (now .next-is)
 
@@ -80,6 +71,8 @@ returns c =
 
 pub place-records-spec : {M : Type 1} → statement M
 place-records-spec =
-    tie.close (tie.spec Inv-loop μ-loop (λ c κs. search needs) (λ c. search needs) (λ c κs. search needs)
-    loop-holds (λ c κs. search needs) (λ c. search needs) (λ c. let few = few-at (search needs) in search needs) element-copy-out-slot
-    (λ c κs. search needs) place-at-requires loop-less loop-again (λ c. search needs) returns)
+    tie.close (tie.spec Inv-loop μ-loop (λ c κs. search needs) (λ c. search needs) (λ c κs. search needs) loop-holds
+    (λ c κs. search needs) (λ c. search needs) (λ c. let few = few-at (search needs) in search needs)
+    element-copy-out-slot (λ c κs. search needs) place-at-requires
+    (λ c. omega (arith, here (the (tie.After-read Inv-loop μ-loop) (search needs)))) loop-again (λ c. search needs)
+    returns)

@@ -1,5 +1,5 @@
 -- `writing::write_word` meets its contract: four bytes are stored.
-use Rattle.base.proofs.Prelude.{arith, length-set, now, needs}
+use Rattle.base.proofs.Prelude.{the, arith, length-set, now, needs}
 use Rattle.sheet_records.proofs.BytesLaws.{word-stored}
 use Rattle.sheet_records.proofs.writing.write_word.Statement.{statement}
 use Rattle.sheet_records.proofs.writing.write_word.Tie as tie
@@ -9,4 +9,4 @@ write-word-spec =
     tie.close (tie.spec (λ c. search needs) (λ c. search needs) (λ c. search needs) (λ c. search needs)
     (λ c. simp length-set (omega arith)) (λ c. search needs) (λ c. search needs) (λ c. simp length-set (omega arith))
     (λ c. search needs) (λ c. search needs) (λ c. simp length-set (omega arith)) (λ c. search needs)
-    (λ c. let start : tie.Start = search needs in let a = start .args in word-stored (a .word) (a .from) (now (a .output))))
+    (λ c. let a = the tie.Start (search needs) .args in word-stored (a .word) (a .from) (now (a .output))))

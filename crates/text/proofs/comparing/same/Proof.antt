@@ -1,5 +1,5 @@
 -- `comparing::same` meets its contract: after i turns the first i bytes are the same.
-use Rattle.base.proofs.Prelude.{_-_, _≤_, _≡_, refl, length, drop, now, needs}
+use Rattle.base.proofs.Prelude.{the, _-_, _≤_, _≡_, refl, length, drop, now, needs}
 use Rattle.text.specs.Ascii.{same}
 use Rattle.text.proofs.SameLaws.{same-unlike, same-byte, other-byte, same-all}
 use Rattle.text.proofs.comparing.same.Statement.{statement}
@@ -19,21 +19,19 @@ loop-holds c = (search needs, search needs, refl)
 
 returns-2 : tie.Need-returns-2 Inv-loop μ-loop
 returns-2 c =
-    let at-loop : tie.At-loop Inv-loop μ-loop = search needs in
-    let start : tie.Start Inv-loop μ-loop = search needs in let a = start .args in
-    let t = at-loop .loop in
+    let a = the (tie.Start Inv-loop μ-loop) (search needs) .args in
+    let t = the (tie.At-loop Inv-loop μ-loop) (search needs) .loop in
     other-byte (now (a .a)) (now (a .b)) (t .i) _ (t .inv .1) (t .inv .2) (search needs) (c .if2 .taken)
 
 loop-again : tie.Need-loop-again Inv-loop μ-loop
 loop-again c =
-    let at-loop : tie.At-loop Inv-loop μ-loop = search needs in
-    let start : tie.Start Inv-loop μ-loop = search needs in let a = start .args in
-    let t = at-loop .loop in
+    let a = the (tie.Start Inv-loop μ-loop) (search needs) .args in
+    let t = the (tie.At-loop Inv-loop μ-loop) (search needs) .loop in
     (search needs, search needs, same-byte (now (a .a)) (now (a .b)) (t .i) _ (t .inv .1) (t .inv .2) (search needs) (c .if2 .left))
 
 returns-3 : tie.Need-returns-3 Inv-loop μ-loop
 returns-3 c =
-    let start : tie.Start Inv-loop μ-loop = search needs in let a = start .args in
+    let a = the (tie.Start Inv-loop μ-loop) (search needs) .args in
     let t = c .before .loop in
     same-all (now (a .a)) (now (a .b)) (t .i) _ (t .inv .1) (t .inv .2) (search needs)
 

@@ -1,5 +1,5 @@
 -- `before` meets its contract: no separator is among the bytes read so far.
-use Rattle.base.proofs.Prelude.{_+_, _-_, _≤_, _≡_, arith, length, drop, now, needs}
+use Rattle.base.proofs.Prelude.{the, _+_, _-_, _≤_, _≡_, arith, length, drop, now, needs}
 use Rattle.text.specs.Pieces.{before}
 use Rattle.text.proofs.PieceLaws.{before-found, before-turn, before-all}
 use Rattle.text.proofs.pieces.before.Statement.{statement}
@@ -16,16 +16,14 @@ loop-holds c = (search needs, omega arith)
 
 returns : tie.Need-returns Inv-loop μ-loop
 returns c =
-    let at-loop : tie.At-loop Inv-loop μ-loop = search needs in
     let start : tie.Start Inv-loop μ-loop = search needs in
-    let t = at-loop .loop in
+    let t = the (tie.At-loop Inv-loop μ-loop) (search needs) .loop in
     before-found (start .args .separator) (now (start .args .text)) (t .i) (t .inv .1) (search needs) (search needs)
 
 loop-again : tie.Need-loop-again Inv-loop μ-loop
 loop-again c =
-    let at-loop : tie.At-loop Inv-loop μ-loop = search needs in
     let start : tie.Start Inv-loop μ-loop = search needs in
-    let t = at-loop .loop in
+    let t = the (tie.At-loop Inv-loop μ-loop) (search needs) .loop in
     (search needs, before-turn (start .args .separator) (now (start .args .text)) (t .i) (t .inv .1) (search needs) (search needs))
 
 returns-2 : tie.Need-returns-2 Inv-loop μ-loop

@@ -23,5 +23,5 @@ returns-2 c =
 
 pub piece-end-spec : {M : Type 1} → statement M
 piece-end-spec =
-    tie.close
-    (tie.spec returns (λ c. search needs) (λ c. search needs) (λ c. search needs) (λ c κs. search needs) add-result returns-2)
+    tie.close (tie.spec returns (λ c. search needs) (λ c. search needs) (λ c. search needs) (λ c κs. search needs)
+    add-result returns-2)

@@ -1,5 +1,5 @@
 -- `all_digits` meets its contract: the bytes read so far are digits.
-use Rattle.base.proofs.Prelude.{_-_, _≤_, _≡_, refl, sym, _∙_, length, drop, now, needs}
+use Rattle.base.proofs.Prelude.{the, _-_, _≤_, _≡_, refl, sym, _∙_, length, drop, now, needs}
 use borrow.Author.Tests.{not-true, not-false}
 use Rattle.text.specs.Decimal.{allDigits}
 use Rattle.text.proofs.ReadLaws.{digits-fail, digits-turn, digits-end}
@@ -18,23 +18,20 @@ loop-holds c = (search needs, refl)
 
 returns : tie.Need-returns Inv-loop μ-loop
 returns c =
-    let at-loop : tie.At-loop Inv-loop μ-loop = search needs in
     let start : tie.Start Inv-loop μ-loop = search needs in
-    let t = at-loop .loop in
+    let t = the (tie.At-loop Inv-loop μ-loop) (search needs) .loop in
     digits-fail (now (start .args .text)) (t .i) (t .inv .1) (search needs) (sym (c .before .is-digit .ensures) ∙ not-true _ (c .if1 .taken))
 
 loop-again : tie.Need-loop-again Inv-loop μ-loop
 loop-again c =
-    let at-loop : tie.At-loop Inv-loop μ-loop = search needs in
     let start : tie.Start Inv-loop μ-loop = search needs in
-    let t = at-loop .loop in
+    let t = the (tie.At-loop Inv-loop μ-loop) (search needs) .loop in
     (search needs, digits-turn (now (start .args .text)) (t .i) (t .inv .1) (search needs) (sym (c .before .is-digit .ensures) ∙ not-false _ (c .if1 .left)))
 
 returns-2 : tie.Need-returns-2 Inv-loop μ-loop
 returns-2 c =
-    let start : tie.Start Inv-loop μ-loop = search needs in
     let t = c .before .loop in
-    digits-end (now (start .args .text)) (t .i) (t .inv .1) (search needs)
+    digits-end (now (the (tie.Start Inv-loop μ-loop) (search needs) .args .text)) (t .i) (t .inv .1) (search needs)
 
 pub all-digits-spec : {M : Type 1} → statement M
 all-digits-spec =

@@ -1,5 +1,5 @@
 -- `digits_value` meets its contract: the value of the digits read so far is below 2 ^ 32.
-use Rattle.base.proofs.Prelude.{_+_, _-_, _^_, _≤_, _<_, _≡_, sym, ap, _∙_, arith, length, take, now, needs}
+use Rattle.base.proofs.Prelude.{the, _+_, _-_, _^_, _≤_, _<_, _≡_, sym, ap, _∙_, arith, length, take, now, needs}
 use lib.Seq.{take-all}
 use Rattle.text.specs.Decimal.{value as digitsValue}
 use Rattle.text.proofs.ReadLaws.{value-none, value-turn, value-front, digit-range, number-over, number-value}
@@ -17,41 +17,36 @@ loop-holds c = (search needs, sym value-none, omega arith)
 
 sub-value : tie.Need-sub-value Inv-loop μ-loop
 sub-value c =
-    let at-loop : tie.At-loop Inv-loop μ-loop = search needs in
     let start : tie.Start Inv-loop μ-loop = search needs in let a = start .args in
-    let t = at-loop .loop in
+    let t = the (tie.At-loop Inv-loop μ-loop) (search needs) .loop in
     let range = digit-range (now (a .text)) (start .pre .1) (t .i) (search needs) in
     omega (arith, range .0)
 
 cast-value : tie.Need-cast-value Inv-loop μ-loop
 cast-value c =
-    let at-loop : tie.At-loop Inv-loop μ-loop = search needs in
     let start : tie.Start Inv-loop μ-loop = search needs in let a = start .args in
-    let t = at-loop .loop in
+    let t = the (tie.At-loop Inv-loop μ-loop) (search needs) .loop in
     let range = digit-range (now (a .text)) (start .pre .1) (t .i) (search needs) in
     record { fits = omega (arith, range .1) }
 
 add-value : tie.Need-add-value Inv-loop μ-loop
 add-value c =
-    let at-loop : tie.At-loop Inv-loop μ-loop = search needs in
     let start : tie.Start Inv-loop μ-loop = search needs in let a = start .args in
-    let t = at-loop .loop in
+    let t = the (tie.At-loop Inv-loop μ-loop) (search needs) .loop in
     let range = digit-range (now (a .text)) (start .pre .1) (t .i) (search needs) in
     record { fits = omega (arith, t .inv .2, range .1) }
 
 returns : tie.Need-returns Inv-loop μ-loop
 returns c =
-    let at-loop : tie.At-loop Inv-loop μ-loop = search needs in
     let start : tie.Start Inv-loop μ-loop = search needs in let a = start .args in
-    let t = at-loop .loop in
+    let t = the (tie.At-loop Inv-loop μ-loop) (search needs) .loop in
     let more = value-turn (now (a .text)) (t .i) (search needs) in
     number-over (now (a .text)) (start .pre .0) (start .pre .1) (omega (arith, c .if1 .taken, t .inv .1, more, value-front (t .i + 1) (now (a .text))))
 
 loop-again : tie.Need-loop-again Inv-loop μ-loop
 loop-again c =
-    let at-loop : tie.At-loop Inv-loop μ-loop = search needs in
-    let start : tie.Start Inv-loop μ-loop = search needs in let a = start .args in
-    let t = at-loop .loop in
+    let a = the (tie.Start Inv-loop μ-loop) (search needs) .args in
+    let t = the (tie.At-loop Inv-loop μ-loop) (search needs) .loop in
     (search needs, omega (arith, t .inv .1, value-turn (now (a .text)) (t .i) (search needs)), search needs)
 
 returns-2 : tie.Need-returns-2 Inv-loop μ-loop

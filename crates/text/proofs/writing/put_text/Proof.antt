@@ -1,5 +1,5 @@
 -- `put_text` meets its contract: after i turns the first i bytes are written.
-use Rattle.base.proofs.Prelude.{ℕ, _-_, _≤_, _≡_, refl, sym, ap, _∙_, List, length, length-set, take, now, needs}
+use Rattle.base.proofs.Prelude.{the, ℕ, _-_, _≤_, _≡_, refl, sym, ap, _∙_, List, length, length-set, take, now, needs}
 use lib.Seq.{take-all}
 use Rattle.text.specs.Written.{written}
 use Rattle.text.proofs.WrittenLaws.{written-none, elements-turn}
@@ -17,9 +17,8 @@ loop-holds c = (search needs, refl, sym (written-none _ _))
 
 loop-again : tie.Need-loop-again Inv-loop μ-loop
 loop-again c =
-    let at-loop : tie.At-loop Inv-loop μ-loop = search needs in
-    let start : tie.Start Inv-loop μ-loop = search needs in let a = start .args in
-    let t = at-loop .loop in (
+    let a = the (tie.Start Inv-loop μ-loop) (search needs) .args in
+    let t = the (tie.At-loop Inv-loop μ-loop) (search needs) .loop in (
       search needs,
       simp length-set (t .inv .1),
       elements-turn (a .at) (t .i) (now (a .text)) (now (a .out)) (t .out) (search needs) (t .inv .2),
@@ -27,7 +26,7 @@ loop-again c =
 
 returns : tie.Need-returns Inv-loop μ-loop
 returns c =
-    let start : tie.Start Inv-loop μ-loop = search needs in let a = start .args in
+    let a = the (tie.Start Inv-loop μ-loop) (search needs) .args in
     let t = c .before .loop in
     (refl, t .inv .2 ∙ ap (λ (u : List ℕ). written (a .at) u (now (a .out))) (take-all (t .i) (now (a .text)) (search needs)))
 

@@ -14,25 +14,32 @@ abbrev μ-loop : tie.MeasureT-loop
 μ-loop calls count state₀ answers₀ first₀ state answers first = count - first
 
 loop-holds : tie.Need-loop-holds Inv-loop μ-loop
-loop-holds c = (search needs, search needs, search needs, year-none (now (c .before .before .before .args .calls)) (now (c .before .before .before .args .state)) (now (c .before .before .before .args .answers)))
+loop-holds c =
+    let start : tie.Start Inv-loop μ-loop = search needs in
+    (search needs, search needs, search needs, year-none (now (start .args .calls)) (now (start .args .state)) (now (start .args .answers)))
 
 returns : tie.Need-returns Inv-loop μ-loop
 returns c = λ e. absurd (false≢true e)
 
 loop-again : tie.Need-loop-again Inv-loop μ-loop
 loop-again c =
-    let a = c .before .before .before .before .before .before .before .before .before .before .before .before .before .before .before .args in
-    let t = c .before .before .before .before .before .before .before .before .before .before .before .loop in (
+    let at-loop : tie.At-loop Inv-loop μ-loop = search needs in
+    let after-stretch-end : tie.After-stretch-end Inv-loop μ-loop = search needs in
+    let after-run-stretch : tie.After-run-stretch Inv-loop μ-loop = search needs in
+    let start : tie.Start Inv-loop μ-loop = search needs in let a = start .args in
+    let t = at-loop .loop in (
       search needs,
       search needs,
       search needs,
-      stretch-ran (now (a .calls)) (t .first) (c .before .before .before .before .before .before .before .before .before .stretch-end .result) (c .before .before .before .before .before .before .before .before .before .stretch-end .ensures .0) (omega (arith, c .before .before .before .before .before .before .before .before .before .before .before .before .before .before .before .pre .0, c .before .before .before .before .before .before .before .before .before .stretch-end .ensures .1)) (c .before .before .before .before .before .before .before .before .before .stretch-end .ensures .2)
-          (now (a .state)) (now (a .answers)) (t .answers) (t .state) (t .inv .3 .0) (t .inv .3 .1) (omega (arith, c .before .before .before .before .before .before .before .before .before .before .before .before .before .before .before .pre .1, c .before .before .before .before .before .before .before .before .before .stretch-end .ensures .1, t .inv .1)) _ _
-          (c .before .before .before .before .before .run-stretch .ensures (ran-true _ (c .if1 .left))),
+      stretch-ran (now (a .calls)) (t .first) (after-stretch-end .stretch-end .result) (after-stretch-end .stretch-end .ensures .0) (omega (arith, start .pre .0, after-stretch-end .stretch-end .ensures .1)) (after-stretch-end .stretch-end .ensures .2)
+          (now (a .state)) (now (a .answers)) (t .answers) (t .state) (t .inv .3 .0) (t .inv .3 .1) (omega (arith, start .pre .1, after-stretch-end .stretch-end .ensures .1, t .inv .1)) _ _
+          (after-run-stretch .run-stretch .ensures (ran-true _ (c .if1 .left))),
     )
 
 returns-2 : tie.Need-returns-2 Inv-loop μ-loop
-returns-2 c = λ e. year-all (now (c .before .before .before .before .before .args .calls)) (now (c .before .before .before .before .before .args .state)) (now (c .before .before .before .before .before .args .answers)) (c .before .before .before .before .before .args .count) (c .before .loop .inv .3) (omega arith)
+returns-2 c =
+    let start : tie.Start Inv-loop μ-loop = search needs in
+    λ e. year-all (now (start .args .calls)) (now (start .args .state)) (now (start .args .answers)) (start .args .count) (c .before .loop .inv .3) (omega arith)
 
 pub run-all-spec : {M : Type 1} → statement M
 run-all-spec =

@@ -12,7 +12,10 @@ returns-2 : tie.Need-returns-2
 returns-2 c = λ e. absurd (false≢true e)
 
 returns-3 : tie.Need-returns-3
-returns-3 c = λ e. was-run (now (c .before .before .before .before .before .before .before .before .before .before .before .before .before .before .before .before .before .before .before .before .args .calls)) (now (c .before .before .before .before .before .before .before .before .before .before .before .before .before .before .before .before .before .before .before .before .args .state)) (now (c .before .before .before .before .before .before .before .before .before .before .before .before .before .before .before .before .before .before .before .before .args .answers)) (c .before .before .before .before .before .before .before .before .before .before .before .before .before .run-calls .result) (c .before .before .before .before .before .before .before .before .before .before .before .before .before .run-calls .ensures) (c .before .before .before .before .before .before .before .if1 .left)
+returns-3 c =
+    let start : tie.Start = search needs in let after-run-calls : tie.After-run-calls = search needs in
+    let else1 : tie.Else1 = search needs in
+    λ e. was-run (now (start .args .calls)) (now (start .args .state)) (now (start .args .answers)) (after-run-calls .run-calls .result) (after-run-calls .run-calls .ensures) (else1 .if1 .left)
 
 pub run-stretch-spec : {M : Type 1} → statement M
 run-stretch-spec =

@@ -15,13 +15,22 @@ loop-holds : tie.Need-loop-holds Inv-loop μ-loop
 loop-holds c = (search needs, search needs, none-yet (now (c .args .calls)) (c .args .first))
 
 returns : tie.Need-returns Inv-loop μ-loop
-returns c = (search needs, search needs, one-closes (now (c .before .before .before .before .args .calls)) (c .before .before .before .before .args .first) (c .before .before .before .loop .n) (c .before .before .before .loop .inv .2))
+returns c =
+    let start : tie.Start Inv-loop μ-loop = search needs in
+    let at-loop : tie.At-loop Inv-loop μ-loop = search needs in
+    (search needs, search needs, one-closes (now (start .args .calls)) (start .args .first) (at-loop .loop .n) (at-loop .loop .inv .2))
 
 loop-again : tie.Need-loop-again Inv-loop μ-loop
-loop-again c = (search needs, search needs, none-more (now (c .before .before .before .before .args .calls)) (c .before .before .before .before .args .first) (c .before .before .before .loop .n) (c .before .before .before .loop .inv .2) (c .before .if1 .taken))
+loop-again c =
+    let start : tie.Start Inv-loop μ-loop = search needs in
+    let at-loop : tie.At-loop Inv-loop μ-loop = search needs in
+    (search needs, search needs, none-more (now (start .args .calls)) (start .args .first) (at-loop .loop .n) (at-loop .loop .inv .2) (c .before .if1 .taken))
 
 returns-2 : tie.Need-returns-2 Inv-loop μ-loop
-returns-2 c = (search needs, search needs, one-closes (now (c .before .before .before .args .calls)) (c .before .before .before .args .first) (c .before .before .loop .n) (c .before .before .loop .inv .2))
+returns-2 c =
+    let start : tie.Start Inv-loop μ-loop = search needs in
+    let at-loop : tie.At-loop Inv-loop μ-loop = search needs in
+    (search needs, search needs, one-closes (now (start .args .calls)) (start .args .first) (at-loop .loop .n) (at-loop .loop .inv .2))
 
 pub stretch-end-spec : {M : Type 1} → statement M
 stretch-end-spec =
