@@ -11,7 +11,8 @@ use Rattle.base.specs.Limits.{sheetHeaderBytes, mostRecords, mostInterties, mos
 use Rattle.base.specs.Refusals.{sheetLengthRefused, sizesRefused, recordsRefused, aboveLimitRefused}
 use Rattle.base.specs.Sums.{allTo}
 use Rattle.sheet_records.specs.Key.{keyRanks, kindOf, holderOf, intertieOf, rankOf, yearsOf}
-use Rattle.sheet_records.specs.Sheet.{sizeOf, interties, holders, count, keyAt, kwAt, howMany, isLimit, isLoadShare, isNewUse, limit, outside, existingOn}
+use Rattle.sheet_records.specs.Sheet.{sizeOf, interties, holders, count, keyAt, kwAt, howMany}
+use Rattle.sheet_records.specs.Sheet.{isLimit, isLoadShare, isNewUse, limit, outside, existingOn}
 
 -- whether x is one of a to b
 abbrev pub within : ℕ → ℕ → ℕ → Bool
