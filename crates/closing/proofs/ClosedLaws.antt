@@ -27,7 +27,8 @@ use Rattle.call.proofs.LadderLaws.{none-first, none-second, not-whenever, not-f
 use Rattle.closing.specs.Close.{closeRefusal, closeGrant, closeKw, closePasses, grantedTo, grantedOn, closeState, closeGrants, Closed, close}
 use Rattle.closing.specs.Workers.Work.{Closable, Granted, Written}
 use Rattle.closing.proofs.TableLaws.{zeros, length-zeros, in-holders, some-interties}
-use Rattle.closing.proofs.StoreLaws.{stored-row, raised-pairs, cleared-pairs}
+use Rattle.state_rows.proofs.FitLaws.{cleared-pairs}
+use Rattle.closing.proofs.StoreLaws.{stored-row, raised-pairs}
 
 -- the grants buffer
 pub grants-are : (s table grants after : List ℕ) (I H : ℕ) → Granted s table → I ≡ interties s → H ≡ holders s →

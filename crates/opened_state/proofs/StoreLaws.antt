@@ -65,10 +65,3 @@ pub cleared-row : (s after : List ℕ) (row n : ℕ) →
 cleared-row s after row n e long whole narrow =
     stored-row s after (replicate 48 0) row n e long whole narrow (omega (arith, length-replicate {A = ℕ} 48 0))
     ∙ fillRow-same row n (rowLow (replicate 48 0)) (λ c. 0) s (λ c l. ap low (zero-word 48 c (omega arith)))
-
-pub cleared-pairs : (s after : List ℕ) (field m n : ℕ) →
-    after ≡ pick (fitPairs (length s) field m n (length {A = ℕ} (replicate 1536 0))) (fillPairs field m n (pairLow (replicate 1536 0)) s) s →
-    16000 ≤ length s → field ≤ 300 → m ≤ 32 → n ≤ 48 → after ≡ fillPairs field m n (λ h i. 0) s
-cleared-pairs s after field m n e long below few narrow =
-    stored-pairs s after (replicate 1536 0) field m n e long below few narrow (omega (arith, length-replicate {A = ℕ} 1536 0))
-    ∙ fillPairs-same field m n (pairLow (replicate 1536 0)) (λ h i. 0) s (λ h i k l. ap low (zero-word 1536 (48 * h + i) (omega arith)))

@@ -151,12 +151,11 @@ fn clear_pairs(state: &mut [u32], interties: usize, holders: usize)
     requires { ⌜ Sizes (now state) interties holders ⌝ }
     ensures { λ _. ⌜ now (state .exit) ≡ pairsCleared interties holders (now (state .entry)) ⌝ }
 {
-    let zeros = [0u64; MOST_PAIRS];
-    state_rows::store_pairs(state, layout::PLACED as usize, holders, interties, &zeros);
-    state_rows::store_pairs(state, layout::TAKEN as usize, holders, interties, &zeros);
-    state_rows::store_pairs(state, layout::LOCKED as usize, holders, interties, &zeros);
-    state_rows::store_pairs(state, layout::TERM as usize, holders, interties, &zeros);
-    state_rows::store_pairs(state, layout::PENDING as usize, holders, interties, &zeros);
+    state_rows::clear_pairs(state, layout::PLACED as usize, holders, interties);
+    state_rows::clear_pairs(state, layout::TAKEN as usize, holders, interties);
+    state_rows::clear_pairs(state, layout::LOCKED as usize, holders, interties);
+    state_rows::clear_pairs(state, layout::TERM as usize, holders, interties);
+    state_rows::clear_pairs(state, layout::PENDING as usize, holders, interties);
 }
 
 // Writes every word of an opened state, of a number over 32 bits its low ones: the sizes, the sheet's

@@ -155,12 +155,12 @@ pub fn read_sheet(
     if bad_sizes(words::intertie_count(sheet), words::holder_count(sheet)) {
         return refusals::SIZES;
     }
-    let mut found = [0; MOST_RECORDS];
-    tables::find_slots(sheet, &mut found);
-    *interties = [0; SLOTS];
-    tables::place_records(sheet, &found, interties);
     *counts = [0; SLOTS];
     *kw = [0; SLOTS];
+    *interties = [0; SLOTS];
+    let mut found = [0; MOST_RECORDS];
+    tables::find_slots(sheet, &mut found);
+    tables::place_records(sheet, &found, interties);
     read_sized(sheet, &found, counts, kw)
 }
 

@@ -1,12 +1,14 @@
 -- What the tests of a row and of a table of the pairs say.
 use Prim.Native.Nat.{ℕ, _≤_, _<_}
-use mathlib.Core.Path.{_≡_}
+use mathlib.Core.Path.{_≡_, _∙_}
+use mathlib.Core.List.{List}
+use lib.ListN.{length}
 use mathlib.Core.Bool.{Bool, true, _&&_}
 use lib.Dec.{leb, ltb}
 use borrow.Author.Tests.{leb-true, ltb-true, le-leb, lt-ltb}
-use Rattle.base.proofs.ChoiceLaws.{and-left, and-right, and-both}
+use Rattle.base.proofs.ChoiceLaws.{and-left, and-right, and-both, pick-true}
 use Rattle.base.specs.Limits.{stateWords}
-use Rattle.state_rows.specs.Rows.{fitRow, fitField, fitPairs}
+use Rattle.state_rows.specs.Rows.{fillPairs, fitRow, fitField, fitPairs, clearedPairs}
 
 pub record FitRow (words row n values : ℕ) : Type 0 where
   pub long : stateWords ≤ words
@@ -77,3 +79,9 @@ pub pairs-fit : (words field m n values : ℕ) → FitPairs words field m n valu
 pairs-fit words field m n values f =
     let inside : FitField words field m n = record { long = f .long; low = f .low; few = f .few; narrow = f .narrow } in
     rw (field-fits words field m n inside, le-leb 1536 values (f .filled))
+
+-- a field that fits is cleared
+pub cleared-pairs : (s after : List ℕ) (field m n : ℕ) → after ≡ clearedPairs field m n s →
+    stateWords ≤ length s → field ≤ 300 → m ≤ 32 → n ≤ 48 → after ≡ fillPairs field m n (λ h i. 0) s
+cleared-pairs s after field m n e long low few narrow =
+    e ∙ pick-true _ _ _ (field-fits (length s) field m n (record { long = long; low = low; few = few; narrow = narrow }))

@@ -44,5 +44,5 @@ returns-3 c =
 pub read-sheet-spec : {M : Type 1} → statement M
 read-sheet-spec =
     tie.close (tie.spec (λ c κs. search needs) returns (λ c κs. search needs) (λ c κs. search needs)
-    (λ c κs. search needs) returns-2 (λ c κs. (passed (c .before) .0, search needs)) place-records-requires
+    (λ c κs. search needs) returns-2 (λ c κs. (passed (the tie.Else2 (search needs)) .0, search needs)) place-records-requires
     read-sized-requires returns-3)
