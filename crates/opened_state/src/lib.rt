@@ -1,5 +1,5 @@
 // The opened state (docs/RULES.md, "The year's state"), written from the sheet's table of kilowatts and the steps'
-// figures, group by group in the order of its rows.
+// figures, group by group in the order of its rows. Apart from opening for the prover's time.
 use base::limits::MOST_HOLDERS;
 use base::limits::MOST_INTERTIES;
 use base::limits::MOST_PAIRS;

@@ -1,4 +1,5 @@
-// Whether a state is orderly (docs/RULES.md, "The year's state"), which every call of the year asks first.
+// Whether a state is orderly (docs/RULES.md, "The year's state"), which every call of the year asks first. Apart from state,
+// which says what orderly is, for the prover's time.
 mod balance;
 mod fields;
 mod locks;

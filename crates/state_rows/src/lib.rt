@@ -1,4 +1,4 @@
-// Whole rows of the year's state, written at once.
+// Whole rows of the year's state, written at once. Apart from state for the prover's time.
 use base::limits::MOST_HOLDERS;
 use base::limits::MOST_INTERTIES;
 use base::limits::MOST_PAIRS;

@@ -1,5 +1,5 @@
 // Steps 2 to 4b carried out on the tables of a sheet: P and N of every pair, and what stays unassigned
-// (docs/RULES.md, "Opening").
+// (docs/RULES.md, "Opening"). Apart from opening for the prover's time.
 mod claims;
 mod granting;
 mod step_2;

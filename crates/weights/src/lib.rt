@@ -1,4 +1,5 @@
-// The holders' weights in a closing (docs/RULES.md, "Calls of the year"): the load share, or the sellers' average where that is 0.
+// The holders' weights in a closing (docs/RULES.md, "Calls of the year"): the load share, or the sellers' average where that
+// is 0. Apart from closing for the prover's time.
 use base::limits::MOST_HOLDERS;
 use base::limits::STATE_WORDS;
 use state::layout;
