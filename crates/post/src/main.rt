@@ -1,8 +1,9 @@
 // Program `post`: a sheet on standard input, its posting on standard output (docs/RULES.md, "Beside the year"). Here
 // it is run on the sheet of case i.
+#![tactic(auto)]
+
 use base::limits::MOST_SHEET_BYTES;
 use input::say;
-use libc::{STDIN_FILENO, STDOUT_FILENO};
 use posting_text::TEXT_BYTES;
 
 // Room for the longest sheet and for one byte more, by which a longer input is told from it, and is refused.
@@ -10,22 +11,22 @@ const SHEET_ROOM: usize = MOST_SHEET_BYTES + 1;
 
 // Reads a sheet from standard input and prints its posting, or `R` and the number of its refusal. Where it can't
 // be read or printed, standard error says so.
-fn main() {
+fn main(rt: HostRuntime) {
     let mut sheet = [0u8; SHEET_ROOM];
-    let read = input::read_whole(STDIN_FILENO, &mut sheet);
+    let read = input::read_whole(&mut rt.stdin(), &mut sheet);
     if !read.whole {
-        say(b"standard input: can't be read\n");
+        say(&rt.stderr(), b"standard input: can't be read\n");
         return;
     }
     let count = read.count;
-    if !print_posting(&sheet[..count]) {
-        say(b"standard output: can't be written\n");
+    if !print_posting(&rt.stdout(), &sheet[..count]) {
+        say(&rt.stderr(), b"standard output: can't be written\n");
     }
 }
 
 // Answers whether the posting was written.
-fn print_posting(sheet: &[u8]) -> bool {
+fn print_posting(stdout: &impl Print, sheet: &[u8]) -> bool {
     let mut out = [0u8; TEXT_BYTES];
     let count = posting_text::posting_text(sheet, &mut out);
-    io::write_all(STDOUT_FILENO, &out[..count])
+    stdout.write_all(&out[..count]).is_ok()
 }

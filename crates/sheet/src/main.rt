@@ -1,9 +1,12 @@
 // Program `sheet`: comma-separated text on standard input becomes a sheet's bytes on standard
 // output; with a sheet's file name as its argument it prints the sheet's text.
+#![tactic(auto)]
+
 use base::limits::MOST_SHEET_BYTES;
-use input::say;
-use libc::{STDERR_FILENO, STDIN_FILENO, STDOUT_FILENO};
+use input::{fail, say};
 use sheet_table::{Converted, TABLE_BYTES, faults};
+use std::io::Read;
+use std::rt::{Env, Files};
 
 // The longest text that is read.
 const MOST_TEXT_BYTES: usize = 131_072;
@@ -31,158 +34,157 @@ const YEARS: usize = 5;
 
 const KW: usize = 6;
 
+// The longest name of a file that an argument can give.
+const NAME_ROOM: usize = 4_096;
+
 // Converts or prints, by the number of arguments.
-fn main() {
-    let words = os::arg_count();
-    if words < 2 {
-        convert_input();
+fn main(rt: HostRuntime) {
+    if !input::has_argument(&rt, 1) {
+        convert_input(&mut rt.stdin(), &rt.stdout(), &rt.stderr());
         return;
     }
-    if words == 2 {
-        print_argument();
+    if !input::has_argument(&rt, 2) {
+        print_argument(&rt, &rt.stderr());
         return;
     }
-    say(b"usage: sheet < TEXT > SHEET, or sheet SHEET\n");
+    say(
+        &rt.stderr(),
+        b"usage: sheet < TEXT > SHEET, or sheet SHEET\n",
+    );
 }
 
 // Text on standard input becomes a sheet on standard output.
-fn convert_input() {
+fn convert_input(stdin: &mut impl Read, stdout: &impl Print, stderr: &impl Print) {
     let mut text = [0u8; TEXT_ROOM];
-    let read = input::read_whole(STDIN_FILENO, &mut text);
-    if !read.whole {
-        os::fail(b"standard input");
+    let read = input::read_whole(stdin, &mut text);
+    if let Some(error) = read.error {
+        fail(stderr, b"standard input", error);
         return;
     }
     let count = read.count;
     if TEXT_ROOM <= count {
-        say(b"the text has over 131,072 bytes\n");
+        say(stderr, b"the text has over 131,072 bytes\n");
         return;
     }
-    write_sheet(&text[..count]);
+    write_sheet(stdout, stderr, &text[..count]);
 }
 
 // Writes the sheet that a text says, or says its fault.
-fn write_sheet(text: &[u8]) {
+fn write_sheet(stdout: &impl Print, stderr: &impl Print, text: &[u8]) {
     let mut sheet = [0u8; MOST_SHEET_BYTES];
     let converted = sheet_table::to_sheet(text, &mut sheet);
     if converted.fault != 0 {
-        say_fault(converted);
+        say_fault(stderr, converted);
         return;
     }
     let count = converted.count;
-    write_out(&sheet[..count]);
+    write_out(stdout, stderr, &sheet[..count]);
 }
 
 // Writes to standard output. Where that fails, standard error says why.
-fn write_out(bytes: &[u8]) {
-    if !io::write_all(STDOUT_FILENO, bytes) {
-        os::fail(b"standard output");
+fn write_out(stdout: &impl Print, stderr: &impl Print, bytes: &[u8]) {
+    if let Err(error) = stdout.write_all(bytes) {
+        fail(stderr, b"standard output", error);
     }
 }
 
 // As `line 3, column 2 (holder): not a number`.
-fn say_fault(converted: Converted) {
+fn say_fault(stderr: &impl Print, converted: Converted) {
     let line = converted.line;
     let column = converted.column;
     let fault = converted.fault;
-    say(b"line ");
-    io::print_decimal(STDERR_FILENO, line as u64);
-    say(b", column ");
-    io::print_decimal(STDERR_FILENO, column as u64);
+    say(stderr, b"line ");
+    say_number(stderr, line);
+    say(stderr, b", column ");
+    say_number(stderr, column);
     if line == 1 {
-        say_size(column);
-        say_reason(fault, HOLDERS < column);
+        say_size(stderr, column);
+        say_reason(stderr, fault, HOLDERS < column);
         return;
     }
-    say_field(column);
+    say_field(stderr, column);
     if (fault == faults::NOT_NUMBER) & (column == KIND) {
-        say(b": not a kind\n");
+        say(stderr, b": not a kind\n");
         return;
     }
-    say_reason(fault, KW < column);
+    say_reason(stderr, fault, KW < column);
+}
+
+fn say_number(stderr: &impl Print, number: usize) {
+    let _ = stderr.print(number);
 }
 
 // A column of the first line.
-fn say_size(column: usize) {
+fn say_size(stderr: &impl Print, column: usize) {
     if column == INTERTIES {
-        say(b" (interties)");
+        say(stderr, b" (interties)");
     }
     if column == HOLDERS {
-        say(b" (holders)");
+        say(stderr, b" (holders)");
     }
 }
 
 // A column of a record.
-fn say_field(column: usize) {
+fn say_field(stderr: &impl Print, column: usize) {
     match column {
-        KIND => say(b" (kind)"),
-        HOLDER => say(b" (holder)"),
-        INTERTIE => say(b" (intertie)"),
-        RANK => say(b" (rank)"),
-        YEARS => say(b" (years)"),
-        KW => say(b" (kw)"),
+        KIND => say(stderr, b" (kind)"),
+        HOLDER => say(stderr, b" (holder)"),
+        INTERTIE => say(stderr, b" (intertie)"),
+        RANK => say(stderr, b" (rank)"),
+        YEARS => say(stderr, b" (years)"),
+        KW => say(stderr, b" (kw)"),
         _ => {}
     }
 }
 
 // What a fault means; of wrong fields, whether a field is past the last column.
-fn say_reason(fault: u32, past: bool) {
+fn say_reason(stderr: &impl Print, fault: u32, past: bool) {
     if past {
-        say(b": too many fields\n");
+        say(stderr, b": too many fields\n");
         return;
     }
     match fault {
-        faults::NOT_NUMBER => say(b": not a number\n"),
-        faults::TOO_LARGE => say(b": too large\n"),
-        faults::WRONG_FIELDS => say(b": missing\n"),
-        _ => say(b": over 1,024 records\n"),
+        faults::NOT_NUMBER => say(stderr, b": not a number\n"),
+        faults::TOO_LARGE => say(stderr, b": too large\n"),
+        faults::WRONG_FIELDS => say(stderr, b": missing\n"),
+        _ => say(stderr, b": over 1,024 records\n"),
     }
 }
 
 // Prints the sheet of the file that the argument names.
-fn print_argument() {
-    let mut name = io::buffer();
-    let length = os::arg(1, &mut name);
-    if os::errno() != 0 {
-        os::fail(b"file name");
-        return;
+fn print_argument<R: Env + Files + Print>(rt: &R, stderr: &impl Print) {
+    let mut buffer = [0u8; NAME_ROOM];
+    match input::argument(rt, 1, &mut buffer) {
+        Ok(name) => print_file(rt, stderr, name),
+        Err(error) => fail(stderr, b"file name", error),
     }
-    print_file(&name[..length]);
 }
 
 // Prints the sheet of a file.
-fn print_file(name: &[u8]) {
-    let file = os::open_read(name);
-    if file < 0 {
-        os::fail(name);
-        return;
-    }
+fn print_file<R: Files + Print>(rt: &R, stderr: &impl Print, name: &[u8]) {
     let mut sheet = [0u8; SHEET_ROOM];
-    let read = input::read_whole(file, &mut sheet);
-    if !read.whole {
-        os::fail(name);
-    }
-    libc::close(file);
-    if !read.whole {
+    let read = input::read_file(rt, name, &mut sheet);
+    if let Some(error) = read.error {
+        fail(stderr, name, error);
         return;
     }
     let count = read.count;
     if SHEET_ROOM <= count {
-        say(name);
-        say(b": longer than a sheet\n");
+        say(stderr, name);
+        say(stderr, b": longer than a sheet\n");
         return;
     }
-    print_sheet(name, &sheet[..count]);
+    print_sheet(rt, stderr, name, &sheet[..count]);
 }
 
 // Prints the text of a sheet.
-fn print_sheet(name: &[u8], sheet: &[u8]) {
+fn print_sheet(stdout: &impl Print, stderr: &impl Print, name: &[u8], sheet: &[u8]) {
     let mut text = [0u8; TABLE_BYTES];
     let count = sheet_table::to_table(sheet, &mut text);
     if count == 0 {
-        say(name);
-        say(b": not a sheet, refused with number 1\n");
+        say(stderr, name);
+        say(stderr, b": not a sheet, refused with number 1\n");
         return;
     }
-    write_out(&text[..count]);
+    write_out(stdout, stderr, &text[..count]);
 }

@@ -1,23 +1,21 @@
 -- Calls run in stretches are the calls run as one list: what a stretch leaves is what the list leaves up to its end.
-use Prim.Native.Nat.{ℕ, zero, suc, ◌+◌, ◌*◌, ◌-◌, ◌/◌, ◌≤◌, ◌<◌}
+use Prim.Native.Nat.{ℕ, zero, suc, ◌+◌, ◌*◌, ◌-◌, ◌≤◌, ◌<◌}
 use mathlib.Core.Path.{◌≡◌, refl, sym, ap, ◌∙◌}
 use mathlib.Core.Bool.{Bool, true, false, not, true≢false}
 use mathlib.Core.List.{List, [], ◌∷◌, ◌++◌}
 use mathlib.Core.Logic.{◌≢◌}
 use native.Mathlib.Nat.{add-zero}
-use native.Mathlib.Numerals.{add-one}
 use native.Mathlib.Decide.{ℕ_discrete}
 use native.Mathlib.Omega.{arith}
-use lib.Dec.{eqb}
-use lib.ListN.{length, take, drop, set, length-take, length-drop, length-append, length-set}
-use lib.Seq.{ext_get_or, get_or-take, get_or-drop, set-append_left, length-take-le, take_all}
+use lib.ListN.{length, take, drop, set, length-take, length-drop, length-set}
+use lib.Seq.{ext_get_or, get_or-take, get_or-drop, set-append_left, length-take-le}
 use borrow.Author.Tests.{ne_eqb}
 use borrow.Rule.Slice.PartMut.{mid_of, put_mid, mid_len, put_same}
 use Rattle.base.specs.Choice.{pick}
 use Rattle.base.specs.Words.{at}
 use Rattle.base.specs.declared.Answer.{Answer}
 use Rattle.base.proofs.SumLaws.{sum_to-zeros}
-use Rattle.balances.specs.Calls.{Call, Result, result, after}
+use Rattle.balances.specs.Calls.{Result, result, after}
 use Rattle.lists.specs.Encoded.{call_count, words_of, is_closing, call_of, closings_before, lent_to, accepted, with_answer, run}
 use Rattle.lists.specs.Encoded as Encoded
 use Rattle.lists.proofs.RunLaws.{after-suc, run-whole}

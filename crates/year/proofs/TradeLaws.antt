@@ -1,7 +1,7 @@
 -- What `control` sums as bought and sold is what the list of calls bought and sold (balances, `Amounts`).
 use Prim.Native.Nat.{ℕ, zero, suc, ◌*◌, ◌≤◌, ◌<◌, min}
 use mathlib.Core.Path.{◌≡◌, refl, sym, ap, ◌∙◌}
-use mathlib.Core.Bool.{Bool, true, false, ◌&&◌}
+use mathlib.Core.Bool.{true, false, ◌&&◌}
 use mathlib.Core.List.{List}
 use mathlib.Core.Logic.{◌≢◌}
 use native.Mathlib.Omega.{arith}
@@ -13,7 +13,7 @@ use borrow.Author.Tests.{eq-eqb, ne_eqb}
 use Rattle.base.specs.Choice.{pick}
 use Rattle.base.specs.Sums.{sum_to}
 use Rattle.base.specs.Words.{at}
-use Rattle.base.specs.Answers.{refused, granted}
+use Rattle.base.specs.Answers.{granted}
 use Rattle.base.proofs.ChoiceLaws.{pick-by}
 use Rattle.base.proofs.SumLaws.{sum_to-zero, sum_to-suc}
 use Rattle.trading.specs.Trade as Trade

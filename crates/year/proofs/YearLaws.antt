@@ -1,15 +1,15 @@
 -- Laws of a year run from words: the state and the answers after one call more.
 use Prim.Native.Nat.{ℕ, zero, suc, ◌+◌, ◌*◌, ◌≤◌, ◌<◌}
-use mathlib.Core.Path.{◌≡◌, refl, sym, ap, ◌∙◌}
-use mathlib.Core.List.{List, [], ◌∷◌, ◌++◌}
+use mathlib.Core.Path.{◌≡◌, refl, ◌∙◌}
+use mathlib.Core.List.{List}
 use mathlib.Core.Logic.{◌≢◌, ⊎_elim}
 use native.Mathlib.Omega.{arith}
-use lib.ListN.{length, take, drop, set, length-set}
+use lib.ListN.{length, drop, set, length-set}
 use lib.Seq.{get_or-set_same, get_or-set_other, get_or-take, get_or-drop}
 use Rattle.base.specs.Words.{at}
 use Rattle.base.specs.declared.Answer.{Answer}
 use Rattle.base.proofs.SumLaws.{below_suc}
-use Rattle.balances.specs.Calls.{result, after}
+use Rattle.balances.specs.Calls.{result}
 use Rattle.lists.specs.Encoded.{words_of, with_answer}
 use Rattle.balances.proofs.ListLaws.{after_last}
 use Rattle.year.specs.Year.{call_at, first_calls, state_after, answers_after}

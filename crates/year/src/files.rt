@@ -2,53 +2,55 @@
 ghost use Rattle.std.specs.Prelude.{◌≡◌};
 ghost use Rattle.io.specs.Counts.{IsPrefixLen};
 
-use input::Read;
-use libc::STDERR_FILENO;
+use input::{Read, fail, say};
+use std::rt::{Env, Files};
 
-// What is read where nothing can be read.
+// What is read where nothing can be read, when standard error has said why.
 pub(super) fn nothing() -> Read
     ensures { result.count ≡ 0 }
 {
     Read {
         whole: false,
         count: 0,
+        error: None,
     }
 }
 
 // Reads the file that an argument names into the start of a buffer: the whole file, or as much as there
 // is room for. Where that fails, standard error says why.
-pub(super) fn read_argument(argument: usize, buffer: &mut [u8]) -> Read
+pub(super) fn read_argument<R: Env + Files>(
+    rt: &R,
+    stderr: &impl Print,
+    argument: usize,
+    buffer: &mut [u8],
+) -> Read
     ensures { IsPrefixLen result.count buffer.new }
 {
-    let mut name = io::buffer();
-    let count = os::arg(argument, &mut name);
-    if os::errno() != 0 {
-        os::fail(b"a file's name");
-        return nothing();
+    let mut room = io::buffer();
+    match input::argument(rt, argument, &mut room) {
+        Ok(name) => read_named(rt, stderr, name, buffer),
+        Err(error) => {
+            fail(stderr, b"a file's name", error);
+            nothing()
+        }
     }
-    read_named(&name[..count], buffer)
 }
 
 // Reads the file of a name in the same way.
-fn read_named(name: &[u8], buffer: &mut [u8]) -> Read
+fn read_named(files: &impl Files, stderr: &impl Print, name: &[u8], buffer: &mut [u8]) -> Read
     ensures { IsPrefixLen result.count buffer.new }
 {
-    let file = os::open_read(name);
-    if file < 0 {
-        os::fail(name);
-        return nothing();
+    let read = input::read_file(files, name, buffer);
+    if let Some(error) = read.error {
+        fail(stderr, name, error);
     }
-    let read = input::read_whole(file, buffer);
-    if !read.whole {
-        os::fail(name);
-    }
-    libc::close(file);
     read
 }
 
 // Writes the name that an argument gives to standard error.
-pub(super) fn print_name(argument: usize) {
-    let mut name = io::buffer();
-    let count = os::arg(argument, &mut name);
-    io::write_all(STDERR_FILENO, &name[..count]);
+pub(super) fn print_name(env: &impl Env, stderr: &impl Print, argument: usize) {
+    let mut room = io::buffer();
+    if let Ok(name) = input::argument(env, argument, &mut room) {
+        say(stderr, name);
+    }
 }

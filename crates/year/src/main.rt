@@ -1,5 +1,7 @@
 // Program `year`: the year of a sheet and of a journal in files, printed call by call, with what a
 // control room asks for at its end. The same files always give the same output.
+#![tactic(auto)]
+
 mod faults;
 mod files;
 mod next;
@@ -10,8 +12,9 @@ ghost use Rattle.std.specs.Prelude.{◌≤◌};
 ghost use Rattle.journal.specs.Sizes.{most_calls};
 
 use base::limits::{MOST_SHEET_BYTES, STATE_WORDS};
-use input::Read;
+use input::{Read, has_argument};
 use journal::sizes::{ANSWERS_WORDS, CALLS_WORDS, MOST_JOURNAL_BYTES};
+use std::rt::{Env, Files};
 use year_text::TEXT_BYTES;
 
 // The arguments: the names of the sheet, of the journal and, where there is a third, of the sheet that
@@ -28,85 +31,100 @@ const SHEET_ROOM: usize = MOST_SHEET_BYTES + 1;
 const JOURNAL_ROOM: usize = MOST_JOURNAL_BYTES + 1;
 
 // Runs the year of the files that the arguments name.
-fn main() {
-    let arguments = os::arg_count();
-    if (arguments <= JOURNAL) | (NEXT_SHEET + 1 < arguments) {
-        faults::usage();
+fn main(rt: HostRuntime) {
+    let stderr = rt.stderr();
+    if !has_argument(&rt, JOURNAL) || has_argument(&rt, NEXT_SHEET + 1) {
+        faults::usage(&stderr);
         return;
     }
     let mut sheet = [0u8; SHEET_ROOM];
     let mut text = [0u8; JOURNAL_ROOM];
     let mut calls = [0u32; CALLS_WORDS];
-    run_files(&mut sheet, &mut text, &mut calls, NEXT_SHEET < arguments);
+    run_files(&rt, &stderr, &mut sheet, &mut text, &mut calls);
 }
 
 // Reads both files whole, and then runs the calls on the sheet.
-fn run_files(
+fn run_files<R: Env + Files + Print>(
+    rt: &R,
+    stderr: &impl Print,
     sheet: &mut [u8; SHEET_ROOM],
     text: &mut [u8; JOURNAL_ROOM],
     calls: &mut [u32; CALLS_WORDS],
-    carries: bool,
 ) {
-    let file = files::read_argument(SHEET, sheet);
+    let file = files::read_argument(rt, stderr, SHEET, sheet);
     if !file.whole {
         return;
     }
-    let journal = read_calls(text, calls);
+    let journal = read_calls(rt, stderr, text, calls);
     if !journal.whole {
         return;
     }
     let end = file.count;
     if SHEET_ROOM <= end {
-        faults::too_long_sheet();
+        faults::too_long_sheet(rt, stderr);
         return;
     }
     let bytes: &[u8] = sheet;
-    run_list(&bytes[..end], calls, journal.count, carries);
+    run_list(rt, stderr, &bytes[..end], calls, journal.count);
 }
 
 // Reads the calls of the journal and answers how many there are. Where a line can't be read, standard
 // error says which.
-fn read_calls(text: &mut [u8; JOURNAL_ROOM], calls: &mut [u32; CALLS_WORDS]) -> Read
+fn read_calls<R: Env + Files>(
+    rt: &R,
+    stderr: &impl Print,
+    text: &mut [u8; JOURNAL_ROOM],
+    calls: &mut [u32; CALLS_WORDS],
+) -> Read
     ensures { result.count ≤ most_calls }
 {
-    let file = files::read_argument(JOURNAL, text);
+    let file = files::read_argument(rt, stderr, JOURNAL, text);
     let end = file.count;
     if !file.whole {
         return files::nothing();
     }
     if JOURNAL_ROOM <= end {
-        faults::too_long_journal();
+        faults::too_long_journal(rt, stderr);
         return files::nothing();
     }
     let bytes: &[u8] = text;
     let journal = journal::read_journal(&bytes[..end], calls);
     if journal.fault != 0 {
-        faults::journal_line(journal.line, journal.fault);
+        faults::journal_line(rt, stderr, journal.line, journal.fault);
         return files::nothing();
     }
     Read {
         whole: true,
         count: journal.count,
+        error: None,
     }
 }
 
-// Runs the first `count` calls on the sheet and writes next year's sheet.
-fn run_list(sheet: &[u8], calls: &[u32; CALLS_WORDS], count: usize, carries: bool)
+// Runs the first `count` calls on the sheet and, where an argument names it, writes next year's sheet.
+fn run_list<R: Env + Files + Print>(
+    rt: &R,
+    stderr: &impl Print,
+    sheet: &[u8],
+    calls: &[u32; CALLS_WORDS],
+    count: usize,
+)
     requires { count ≤ most_calls }
 {
     let mut state = [0u32; STATE_WORDS];
     let mut answers = [0u64; ANSWERS_WORDS];
-    if !print_year(sheet, calls, count, &mut state, &mut answers) {
+    if !print_year(rt, stderr, sheet, calls, count, &mut state, &mut answers) {
         return;
     }
-    if carries {
-        next::write_next(sheet, &state);
+    if has_argument(rt, NEXT_SHEET) {
+        next::write_next(rt, stderr, sheet, &state);
     }
 }
 
 // Opens the sheet, runs the first `count` calls and prints the year, or the refusal of the sheet.
 // Answers whether the year was run and printed whole.
 fn print_year(
+    stdout: &impl Print,
+    stderr: &impl Print,
     sheet: &[u8],
     calls: &[u32; CALLS_WORDS],
     count: usize,
@@ -119,17 +137,19 @@ fn print_year(
     let opened = opening::open(sheet, state);
     if opened.refusal != 0 {
         let refused = year_text::answers_text(&[opened.refusal as u64, 0, 0], &mut out);
-        output::write(&out, refused);
+        output::write(stdout, stderr, &out, refused);
         return false;
     }
-    if !running::run_all(calls, count, state, answers, &mut out) {
+    if !running::run_all(stdout, stderr, calls, count, state, answers, &mut out) {
         return false;
     }
-    print_figures(state, calls, answers, count, &mut out)
+    print_figures(stdout, stderr, state, calls, answers, count, &mut out)
 }
 
 // Prints what a control room asks for of every intertie and every holder. Answers whether it was printed whole.
 fn print_figures(
+    stdout: &impl Print,
+    stderr: &impl Print,
     state: &[u32; STATE_WORDS],
     calls: &[u32; CALLS_WORDS],
     answers: &[u64; ANSWERS_WORDS],
@@ -137,9 +157,9 @@ fn print_figures(
     out: &mut [u8; TEXT_BYTES],
 ) -> bool {
     let interties = year_text::interties_text(state, out);
-    if !output::write(out, interties) {
+    if !output::write(stdout, stderr, out, interties) {
         return false;
     }
     let holders = year_text::holders_text(state, calls, answers, count, out);
-    output::write(out, holders)
+    output::write(stdout, stderr, out, holders)
 }

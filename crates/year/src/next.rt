@@ -6,18 +6,31 @@ ghost use Rattle.sheet_records.specs.Sheet.{count};
 
 use super::{NEXT_SHEET, faults};
 use base::limits::{MOST_SHEET_BYTES, RECORD_BYTES, SHEET_HEADER_BYTES, STATE_WORDS};
+use input::fail;
 use sheet_records::words;
+use std::fs;
+use std::fs::OpenFile;
+use std::io::{Error, Write};
+use std::rt::{Env, Files};
+
+// The system's number of a call that a file doesn't take.
+const INVALID: i32 = 22;
 
 // Carries the year and writes next year's sheet. A refusal touches no file.
-pub(super) fn write_next(sheet: &[u8], state: &[u32; STATE_WORDS]) {
+pub(super) fn write_next<R: Env + Files>(
+    rt: &R,
+    stderr: &impl Print,
+    sheet: &[u8],
+    state: &[u32; STATE_WORDS],
+) {
     let mut next = [0u8; MOST_SHEET_BYTES];
     let carried = carrying::carry(sheet, state, &mut next);
     if carried.refusal != 0 {
-        faults::not_carried(carried.refusal);
+        faults::not_carried(rt, stderr, carried.refusal);
         return;
     }
     let count = io::count(sheet_length(&next) as isize, &next);
-    write_argument(&next[..count]);
+    write_argument(rt, stderr, &next[..count]);
 }
 
 // The length of a sheet, 12 + 8·K.
@@ -29,30 +42,32 @@ fn sheet_length(sheet: &[u8]) -> usize
 }
 
 // Writes next year's sheet to the file that the third argument names.
-fn write_argument(sheet: &[u8]) {
-    let mut name = io::buffer();
-    let count = os::arg(NEXT_SHEET, &mut name);
-    if os::errno() != 0 {
-        os::fail(b"a file's name");
-        return;
+fn write_argument<R: Env + Files>(rt: &R, stderr: &impl Print, sheet: &[u8]) {
+    let mut room = io::buffer();
+    match input::argument(rt, NEXT_SHEET, &mut room) {
+        Ok(name) => write_named(rt, stderr, name, sheet),
+        Err(error) => fail(stderr, b"a file's name", error),
     }
-    if !write_file(&name[..count], sheet) {
-        os::fail(&name[..count]);
+}
+
+// Writes the file of a name. Where that fails, standard error says why.
+fn write_named(files: &impl Files, stderr: &impl Print, name: &[u8], sheet: &[u8]) {
+    if let Err(error) = write_file(files, name, sheet) {
+        fail(stderr, name, error);
     }
 }
 
 // Writes a file of that name, over the one that there is.
-fn write_file(name: &[u8], bytes: &[u8]) -> bool {
-    let file = os::open_overwrite(name);
-    if file < 0 {
-        return false;
-    }
-    let written = io::write_all(file, bytes) && kept(file);
-    let closed = libc::close(file) == 0;
-    written & closed
+fn write_file(files: &impl Files, name: &[u8], bytes: &[u8]) -> Result<(), Error> {
+    let mut file = fs::create(files, input::file_name(name)?)?;
+    file.write_all(bytes)?;
+    keep(&file)
 }
 
 // Has the system store what was written. What isn't stored, as a pipe, has nothing to keep.
-fn kept(file: i32) -> bool {
-    (libc::fsync(file) == 0) | (os::errno() == libc::EINVAL)
+fn keep(file: &impl OpenFile) -> Result<(), Error> {
+    match file.sync_all() {
+        Err(error) if error.raw_os_error() != Some(INVALID) => Err(error),
+        _ => Ok(()),
+    }
 }

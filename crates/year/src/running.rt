@@ -14,6 +14,8 @@ use year_text::{MOST_ANSWERS, TEXT_BYTES};
 
 // Runs the first `count` calls. Answers whether all were run and printed.
 pub(super) fn run_all(
+    stdout: &impl Print,
+    stderr: &impl Print,
     calls: &[u32],
     count: usize,
     state: &mut [u32],
@@ -29,7 +31,7 @@ pub(super) fn run_all(
         let end = stretch_end(calls, first, count);
         let words = &calls[CALL_WORDS * first..CALL_WORDS * end];
         let room = &mut answers[ANSWER_WORDS * first..ANSWER_WORDS * end];
-        if !run_stretch(words, state, room, out) {
+        if !run_stretch(stdout, stderr, words, state, room, out) {
             return false;
         }
         first = end;
@@ -56,6 +58,8 @@ fn stretch_end(calls: &[u32], first: usize, count: usize) -> usize
 // Runs calls of which only the last may be a closing, and prints their answers and the grants of the
 // closing. A refused closing leaves the grants at 0.
 fn run_stretch(
+    stdout: &impl Print,
+    stderr: &impl Print,
     calls: &[u32],
     state: &mut [u32],
     answers: &mut [u64],
@@ -69,10 +73,10 @@ fn run_stretch(
         return false;
     }
     let answered = year_text::answers_text(answers, out);
-    if !output::write(out, answered) {
+    if !output::write(stdout, stderr, out, answered) {
         return false;
     }
     let interties = state::intertie_count(state) as usize;
     let granted = year_text::grants_text(&grants, interties, out);
-    output::write(out, granted)
+    output::write(stdout, stderr, out, granted)
 }
