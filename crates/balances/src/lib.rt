@@ -1,1 +1,2 @@
 // What holds after whole lists of calls, as definitions (specs/) and what is proved of them (proofs/). `lists` runs a list.
+#![tactic(auto)]

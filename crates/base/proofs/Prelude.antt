@@ -11,6 +11,6 @@ unfoldable pub use Rattle.base.specs.Choice.{pick}
 unfoldable pub use Rattle.base.specs.Sums.{sum_to, all_to}
 unfoldable pub use Rattle.base.specs.Words.{at, tab, fill}
 
--- the value x of type A, said with its type: `the tie.Start (search rules)` is the function's entry, found by its type
+-- the value x of type A, said with its type
 abbrev pub the : (A : Type 0) → A → A
 the A x = x

@@ -1,5 +1,5 @@
 -- Loops that test all without a branch: they count the tests that fail, or put bits together by `|`.
-use Rattle.std.proofs.Common.{◌≡◌, ℕ, zero, suc, ◌+◌, ◌<◌, ◌≤◌, Bool, true, false, ◌&&◌, eqb, leb, refl, ap, ◌∙◌, zero-le, le_refl, add-zero, mul-one, arith, eq-eqb, ne_eqb, eqb-true, le-leb, leb-true}
+use Rattle.std.proofs.Common.{◌≡◌, ℕ, zero, suc, ◌+◌, ◌≤◌, Bool, true, false, ◌&&◌, eqb, leb, refl, ap, ◌∙◌, zero-le, le_refl, add-zero, mul-one, arith, eq-eqb, ne_eqb, eqb-true, le-leb, leb-true}
 use lib.Bits.{bit_or, or_add_and, and_le_l, and_le_r}
 use Rattle.base.specs.Choice.{pick}
 use Rattle.base.specs.Sums.{sum_to, all_to}

@@ -1,5 +1,5 @@
 -- Sums and tests over the numbers below n, as "all holders" and "every intertie" of the rules.
-use Rattle.std.specs.Prelude.{ℕ, zero, suc, ◌+◌, Bool, true, false, ◌&&◌}
+use Rattle.std.specs.Prelude.{ℕ, zero, suc, ◌+◌, Bool, true, ◌&&◌}
 
 -- f 0 + f 1 + .. + f (n - 1)
 unfoldable pub sum_to : ℕ → (ℕ → ℕ) → ℕ

@@ -1,5 +1,7 @@
 // What every crate stands on: each number and name of the rules in its one home (limits, refusals, kinds of record, stages,
 // words of a call), the answer of a call, numbers and lists of them, and choices and sums for the specifications.
+#![tactic(auto)]
+
 pub mod encoding;
 pub mod kinds;
 pub mod limits;
@@ -13,7 +15,7 @@ ghost use Rattle.base.specs.Answers.{refused, granted};
 
 // The answer of a call: the number of a refusal, or 0; the kilowatts; the passes of share-outs.
 #[repr(C)]
-#[derive(Drop)]
+#[derive(Clone, Copy)]
 pub struct Answer {
     pub refusal: u32,
     pub kw: u64,

@@ -1,4 +1,6 @@
 // What the calls of the year share: the tests of the table of refusals, each tried in its turn.
+#![tactic(auto)]
+
 ghost use Rattle.std.specs.Prelude.{◌≡◌, not, eqb};
 ghost use Rattle.base.specs.Stages.{open_stage};
 ghost use Rattle.state.specs.Layout.{stage_of};

@@ -1,4 +1,6 @@
 // Carry: next year's sheet, from this year's sheet and state (docs/RULES.md, "Beside the year").
+#![tactic(auto)]
+
 mod key;
 mod locks;
 mod records;

@@ -9,60 +9,80 @@ use lib.Dec.{leb, ltb}
 use lib.ListN.{length, set}
 use borrow.Author.Tests.{ne_eqb, ltb-false, leb-true, not-false}
 use Rattle.base.specs.Choice.{pick}
+use Rattle.base.specs.Sums.{sum_to}
 use Rattle.base.specs.Words.{at, fill}
 use Rattle.base.specs.Answers.{refused, granted}
 use Rattle.base.specs.declared.Answer.{Answer}
 use Rattle.base.proofs.ChoiceLaws.{and_right}
-use Rattle.base.proofs.WordLaws.{fill-same}
+use Rattle.base.proofs.SumLaws.{sum_to-same}
+use Rattle.base.proofs.WordLaws.{fill-same, at_fill, length-fill}
 use Rattle.intertie_shares.specs.Pairs.{at_pair}
 use Rattle.state.specs.Layout.{place, interties, holders, stage_at, stage_of, unassigned_of, unplaced_of, placed_of}
 use Rattle.state.specs.Orderly.{state_refusal}
-use Rattle.state.proofs.OrderlyLaws.{refusal-none, unassigned-most, unplaced-most, placed-most}
+use Rattle.state.proofs.OrderlyLaws.{Orderly, unassigned-most, unplaced-most, placed-most}
 use Rattle.state_rows.specs.Rows.{fill_row, fill_pairs, fit_row, fit_field, fit_pairs}
 use Rattle.state_rows.proofs.RowLaws.{length-fill_row, at-fill_row-apart, length-fill_pairs}
 use Rattle.call.specs.Outcome.{or_else, whenever}
 use Rattle.call.proofs.LadderLaws.{none_first, none-second, not-whenever, not_first}
 use Rattle.closing.specs.Close.{close_refusal, close_grant, close_kw, close_passes, granted_to, granted_on, close_state, close_grants, Closed, close}
 use Rattle.closing.specs.Workers.Work.{Closable, Granted, Written}
-use Rattle.closing.proofs.TableLaws.{in-holders, some-interties}
+use Rattle.closing.proofs.TableLaws.{zeros, length-zeros, in-holders, some-interties}
 use Rattle.state_rows.proofs.FitLaws.{cleared-pairs}
 use Rattle.closing.proofs.StoreLaws.{stored_row, raised-pairs}
 
 -- the grants buffer
-pub grants-are : (s table grants after : List ℕ) (I H : ℕ) → Closable s I H → Granted s I H table →
+pub grants-are : (s table grants after : List ℕ) (I H : ℕ) → Granted s table → I ≡ interties s → H ≡ holders s →
     after ≡ fill (H * I) (λ p. at_pair table (p / I) (p % I)) grants → after ≡ close_grants s grants
 unfolding close_grants
-grants-are s table grants after I H c g a =
-    let own : after ≡ fill (H * I) (λ p. close_grant s (p / I) (p % I)) grants =
-    a ∙ fill-same (H * I) (λ p. at_pair table (p / I) (p % I)) (λ p. close_grant s (p / I) (p % I)) grants
-    (λ p l. g.pairs (p / I) (p % I) (in-holders I H p l) (mod-lt p (some-interties I H p l))) in
-    rw (c.interties-are, c.holders-are) at own
+grants-are s table grants after I H g e f a =
+    let own : after ≡ fill (holders s * interties s) (λ p. at_pair table (p / interties s) (p % interties s)) grants = rw (e, f) at a in
+    own
+    ∙ fill-same (holders s * interties s) (λ p. at_pair table (p / interties s) (p % interties s))
+    (λ p. close_grant s (p / interties s) (p % interties s)) grants
+    (λ p l.
+    g.pairs (p / interties s) (p % interties s) (in-holders (interties s) (holders s) p l)
+    (mod-lt p (some-interties (interties s) (holders s) p l)))
+
+-- the numbers that are written over two rows of the state
+pub written : (s table unassigned unplaced : List ℕ) (I H : ℕ) → Orderly s → Granted s table → I ≡ interties s → H ≡ holders s →
+    48 ≤ length unassigned → ((i : ℕ) → i < interties s → at unassigned i ≡ unassigned_of s i - sum_to (holders s) (λ h. at_pair table h i)) →
+    unplaced ≡ fill H (λ h. unplaced_of s h - sum_to I (λ i. at_pair table h i)) (zeros 32) → Written s unassigned unplaced
+written s table unassigned unplaced I H o g e f long-row u v =
+    let left : ℕ → ℕ = λ h. unplaced_of s h - sum_to (interties s) (λ i. at_pair table h i) in
+    let n : length (zeros 32) ≡ 32 = length-zeros 32 in
+    let own : unplaced ≡ fill (holders s) left (zeros 32) = rw (e, f) at v in
+    record {
+      unassigned-size = long-row;
+      unassigned-is = λ i l.
+          u i l
+          ∙ ap (λ k. unassigned_of s i - k) (sum_to-same (holders s) (λ h. at_pair table h i) (λ h. close_grant s h i) (λ h k. g.pairs h i k l));
+      unplaced-size = omega (arith, ap length own, length-fill (holders s) left (zeros 32));
+      unplaced-is = λ h k.
+          ap (λ l. at l h) own ∙ at_fill (holders s) left (zeros 32) h k (omega (arith, o.holders-most))
+          ∙ ap (λ x. unplaced_of s h - x) (sum_to-same (interties s) (λ i. at_pair table h i) (λ i. close_grant s h i) (λ i l. g.pairs h i k l));
+    }
 
 -- the state, store by store
-pub state-is : (s unassigned unplaced table t1 t2 t3 t4 t5 : List ℕ) (I H stage : ℕ) → Closable s I H → Granted s I H table → Written s I H unassigned unplaced →
-    stage ≡ stage_of s →
+pub state-is : (s unassigned unplaced table t1 t2 t3 t4 t5 : List ℕ) (I H stage : ℕ) → 16000 ≤ length s → Orderly s → Granted s table → Written s unassigned unplaced →
+    I ≡ interties s → H ≡ holders s → stage ≡ stage_of s →
     t1 ≡ pick (fit_row (length s) 104 I (length unassigned)) (fill_row 104 I (λ c. at unassigned c % 4294967296) s) s →
     t2 ≡ pick (fit_row (length t1) 105 H (length unplaced)) (fill_row 105 H (λ c. at unplaced c % 4294967296) t1) t1 →
     t3 ≡ pick (fit_pairs (length t2) 109 H I (length table)) (fill_pairs 109 H I (λ h i. (at t2 (place (109 + h) i) + at table (48 * h + i) % 4294967296) % 4294967296) t2) t2 →
     t4 ≡ pick (fit_field (length t3) 237 H I) (fill_pairs 237 H I (λ h i. 0) t3) t3 →
     t5 ≡ set t4 stage_at (stage + 1) → t5 ≡ close_state s
 unfolding close_state
-state-is s unassigned unplaced table t1 t2 t3 t4 t5 I H stage c d w g a1 a2 a3 a4 a5 =
-    let o = (refusal-none s c.fit).1 in
-    let e = c.interties-are in
-    let f = c.holders-are in
-    let long = c.long in
-    let few = c.interties-most in
-    let low = c.holders-most in
+state-is s unassigned unplaced table t1 t2 t3 t4 t5 I H stage long o d w e f g a1 a2 a3 a4 a5 =
+    let few : I ≤ 48 = omega (arith, o.interties-most) in
+    let low : H ≤ 32 = omega (arith, o.holders-most) in
     let left-on : ℕ → ℕ = λ i. unassigned_of s i - granted_on s i in
     let left-to : ℕ → ℕ = λ h. unplaced_of s h - granted_to s h in
     let e1 : t1 ≡ fill_row 104 I left-on s =
     stored_row s t1 unassigned 104 I left-on a1 long (omega arith) few (omega (arith, w.unassigned-size))
-    w.unassigned-is (λ i l. omega (arith, unassigned-most o i (rw (← e) l))) in
+    (λ i l. w.unassigned-is i (rw (← e) l)) (λ i l. omega (arith, unassigned-most o i (rw (← e) l))) in
     let n1 : length t1 ≡ length s = ap length e1 ∙ length-fill_row 104 I left-on s in
     let e2 : t2 ≡ fill_row 105 H left-to t1 =
     stored_row t1 t2 unplaced 105 H left-to a2 (omega arith) (omega arith) (omega arith) (omega (arith, w.unplaced-size))
-    w.unplaced-is (λ h k. omega (arith, unplaced-most o h (rw (← f) k))) in
+    (λ h k. w.unplaced-is h (rw (← f) k)) (λ h k. omega (arith, unplaced-most o h (rw (← f) k))) in
     let n2 : length t2 ≡ length s = ap length e2 ∙ length-fill_row 105 H left-to t1 ∙ n1 in
     let placed : (h i : ℕ) → i < I → at t2 (place (109 + h) i) ≡ placed_of s h i =
     λ h i l.
@@ -70,35 +90,26 @@ state-is s unassigned unplaced table t1 t2 t3 t4 t5 I H stage c d w g a1 a2 a3 a
     ∙ ap (λ t. at t (place (109 + h) i)) e1 ∙ at-fill_row-apart 104 I left-on s (109 + h) i few (omega arith) (omega arith) in
     let e3 : t3 ≡ fill_pairs 109 H I (λ h i. placed_of s h i + close_grant s h i) t2 =
     raised-pairs t2 t3 table 109 H I (λ h i. placed_of s h i + close_grant s h i) a3 (omega arith) (omega arith) low few (omega (arith, d.size))
-    (λ h i k l. omega (arith, placed h i l, d.pairs h i k l))
-    (λ h i k l. omega (arith, d.pairs h i k l, d.small h i k l, placed-most o h i (rw (← f) k) (rw (← e) l))) in
+    (λ h i k l. omega (arith, placed h i l, d.pairs h i (rw (← f) k) (rw (← e) l)))
+    (λ h i k l.
+    omega (arith, d.pairs h i (rw (← f) k) (rw (← e) l), d.small h i (rw (← f) k) (rw (← e) l), placed-most o h i (rw (← f) k) (rw (← e) l))) in
     let n3 : length t3 ≡ length s = ap length e3 ∙ length-fill_pairs 109 H I (λ h i. placed_of s h i + close_grant s h i) t2 ∙ n2 in
     let e4 : t4 ≡ fill_pairs 237 H I (λ h i. 0) t3 = cleared-pairs t3 t4 237 H I a4 (omega arith) (omega arith) low few in
     rw (a5, e4, e3, e2, e1, e, f, g)
 
--- what holds where no refusal applies, by the number that was found and the sizes that were read
-module _ (s grants : List ℕ) (number : ℕ) (found : number ≡ close_refusal s grants) (none : number ≡ 0) where
-  pub room-for-grants : 1536 ≤ length grants
-  unfolding close_refusal
-  room-for-grants = ltb-false (length grants) 1536 (not_first (ltb (length grants) 1536) 5 _ (omega arith) (sym found ∙ none)).0
-
-  pub closable : (I H : ℕ) → I ≡ interties s → H ≡ holders s → Closable s I H
-  unfolding close_refusal
-  closable I H e f =
-      let stage = leb 1 (stage_of s) && leb (stage_of s) 3 in
-      let first = not_first (ltb (length grants) 1536) 5 (or_else (state_refusal s) (whenever (not stage) 7)) (omega arith) (sym found ∙ none) in
-      let in-stage = not-false stage (not-whenever (not stage) 7 (omega arith) (none-second (state_refusal s) _ first.1)) in
-      let fit = none_first (state_refusal s) _ first.1 in
-      let o = refusal-none s fit in
+-- what holds where no refusal applies
+pub closable : (s grants : List ℕ) → close_refusal s grants ≡ 0 → Closable s × (1536 ≤ length grants)
+unfolding close_refusal
+closable s grants e =
+    let stage = leb 1 (stage_of s) && leb (stage_of s) 3 in
+    let first = not_first (ltb (length grants) 1536) 5 (or_else (state_refusal s) (whenever (not stage) 7)) (omega arith) e in
+    let in-stage = not-false stage (not-whenever (not stage) 7 (omega arith) (none-second (state_refusal s) _ first.1)) in (
       record {
-        fit = fit;
+        fit = none_first (state_refusal s) _ first.1;
         stage-most = leb-true (stage_of s) 3 (and_right (leb 1 (stage_of s)) (leb (stage_of s) 3) in-stage);
-        long = o.0;
-        interties-are = e;
-        interties-most = rw e o.1.interties-most;
-        holders-are = f;
-        holders-most = rw f o.1.holders-most;
-      }
+      },
+      ltb-false (length grants) 1536 first.0,
+    )
 
 -- the call by its number
 pub close-done : (s grants : List ℕ) → close_refusal s grants ≡ 0 →

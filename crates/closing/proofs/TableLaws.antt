@@ -1,19 +1,19 @@
 -- Rows of a table that are written number by number, and tables of the pairs that are written row by row.
-use Prim.Native.Nat.{ℕ, zero, suc, ◌+◌, ◌-◌, ◌*◌, ◌/◌, ◌%◌, ◌^◌, ◌≤◌, ◌<◌, zero-le}
+use Prim.Native.Nat.{ℕ, zero, suc, ◌+◌, ◌-◌, ◌*◌, ◌/◌, ◌%◌, ◌≤◌, ◌<◌}
 use mathlib.Core.Path.{◌≡◌, refl, sym, ap, ◌∙◌}
 use mathlib.Core.List.{List}
-use native.Mathlib.Nat.{le_step, zero-mul, lt-suc_self, not-suc-le-zero, add-zero, mul-zero, suc-mul, mul-add-div_right, mul-add-mod_self_right, div-eq_of_lt, mod-eq_of_lt, div-lt_iff_lt-mul}
+use mathlib.Core.Logic.{◌≢◌, ◌⊎◌, inl, inr, ⊎_elim}
+use native.Mathlib.Nat.{le_step, lt-suc_self, not-suc-le-zero, add-zero, mul-zero, suc-mul, mul-add-div_right, mul-add-mod_self_right, div-eq_of_lt, mod-eq_of_lt, div-lt_iff_lt-mul}
 use native.Mathlib.Numerals.{add-one}
 use native.Mathlib.Omega.{arith}
-use lib.ListN.{length, set, length-set, replicate, length-replicate}
-use borrow.Rule.Slice.PartMut.{mid_of}
+use lib.ListN.{length, set, length-set, replicate, length-replicate, get_or-replicate}
+use lib.Seq.{get_or-set_same, get_or-set_other}
 use Rattle.base.specs.Sums.{sum_to}
 use Rattle.base.specs.Words.{at, fill}
-use Rattle.base.proofs.SumLaws.{sum_to-zero, sum_to-more, sum_to-mono}
-use Rattle.base.proofs.WordLaws.{fill-zero, fill_suc, at_fill, length-fill}
-use Rattle.base.proofs.VectorLaws.{sum-part, sum-whole}
+use Rattle.base.proofs.SumLaws.{below_suc, sum_to-zero, sum_to-more, sum_to-mono}
+use Rattle.base.proofs.WordLaws.{fill_suc, at_fill, length-fill}
 use Rattle.intertie_shares.specs.Pairs.{at_pair}
-use Rattle.closing.specs.Workers.Work.{fill_from, Lowered}
+use Rattle.closing.specs.Workers.Work.{fill_from}
 
 -- a local array before it is written
 abbrev pub zeros : ℕ → List ℕ
@@ -21,6 +21,9 @@ zeros n = replicate n 0
 
 pub length-zeros : (n : ℕ) → length (zeros n) ≡ n
 length-zeros n = length-replicate {A = ℕ} n 0
+
+pub at-zeros : (n i : ℕ) → i < n → at (zeros n) i ≡ 0
+at-zeros n i l = get_or-replicate {A = ℕ} n i 0 0 l
 
 module _ (from : ℕ) (f : ℕ → ℕ) (l : List ℕ) where
   pub fill_from-none : l ≡ fill_from from 0 f l
@@ -32,71 +35,94 @@ module _ (from : ℕ) (f : ℕ → ℕ) (l : List ℕ) where
   length-fill_from zero = refl
   length-fill_from (suc n) = length-set (fill_from from n f l) (from + n) (f n) ∙ length-fill_from n
 
-  -- a loop that writes: a turn
-  fill_from-turn : (c : ℕ) {k : List ℕ} {x : ℕ} → k ≡ fill_from from c f l → x ≡ f c → set k (from + c) x ≡ fill_from from (c + 1) f l
+  -- a place that was written
+  pub at-fill_from : (n c : ℕ) → c < n → from + n ≤ length l → at (fill_from from n f l) (from + c) ≡ f c
+  unfolding fill_from
+  at-fill_from zero c b room = absurd (not-suc-le-zero b)
+  at-fill_from (suc n) c b room =
+      ⊎_elim
+      (λ (e : c ≡ n).
+      let k : from + n < length (fill_from from n f l) = omega (arith, length-fill_from n) in
+      rw e (get_or-set_same (fill_from from n f l) (from + n) (f n) 0 k))
+      (λ (m : c < n).
+      let other : from + c ≢ from + n = omega arith in
+      get_or-set_other (fill_from from n f l) (from + n) (from + c) (f n) 0 other ∙ at-fill_from n c m (omega arith))
+      (below_suc b)
+
+  -- a place before those, or past them
+  pub at-fill_from-apart : (n p : ℕ) → (p < from) ⊎ (from + n ≤ p) → at (fill_from from n f l) p ≡ at l p
+  unfolding fill_from
+  at-fill_from-apart zero p apart = refl
+  at-fill_from-apart (suc n) p apart =
+      let other : p ≢ from + n = ⊎_elim (λ (b : p < from). omega arith) (λ (b : from + suc n ≤ p). omega arith) apart in
+      get_or-set_other (fill_from from n f l) (from + n) p (f n) 0 other
+      ∙ at-fill_from-apart n p (⊎_elim (λ (b : p < from). inl b) (λ (b : from + suc n ≤ p). inr (omega arith)) apart)
+
+  -- a loop that writes: a turn, and the end
+  pub fill_from-turn : (c : ℕ) {k : List ℕ} {x : ℕ} → k ≡ fill_from from c f l → x ≡ f c → set k (from + c) x ≡ fill_from from (c + 1) f l
   unfolding fill_from
   fill_from-turn c {k} {x} e t = rw (add-one c, e, t)
 
--- Loops: what they have after some turns, with laws for none, for one more and for all of them.
+  pub fill_from-end : (n m : ℕ) {k : List ℕ} → k ≡ fill_from from m f l → m ≤ n → n ≤ m → k ≡ fill_from from n f l
+  fill_from-end n m e a b =
+      let same : m ≡ n = omega arith in
+      rw same at e
 
--- the first c words of n from a place on are written
-pub record FilledFrom (from : ℕ) (f : ℕ → ℕ) (n : ℕ) (first row : List ℕ) (c : ℕ) : Type 0 where
-  pub inside : c ≤ n
-  pub size : length row ≡ length first
-  pub written : row ≡ fill_from from c f first
+-- after m holders: their rows have f, and what comes after them is as it was
+pub record Rows (n : ℕ) (f : ℕ → ℕ → ℕ) (first table : List ℕ) (m : ℕ) : Type 0 where
+  pub size : length table ≡ length first
+  pub done : (h i : ℕ) → h < m → i < n → at_pair table h i ≡ f h i
+  pub rest : (p : ℕ) → 48 * m ≤ p → at table p ≡ at first p
 
-module _ (from : ℕ) (f : ℕ → ℕ) (n : ℕ) (first : List ℕ) where
-  pub filled_from-none : FilledFrom from f n first first 0
-  filled_from-none = record { inside = zero-le; size = refl; written = fill_from-none from f first }
+module _ (n : ℕ) (f : ℕ → ℕ → ℕ) (first : List ℕ) where
+  pub rows_none : Rows n f first first 0
+  rows_none = record { size = refl; done = λ h i k l. absurd (not-suc-le-zero k); rest = λ p l. refl }
 
-  pub filled_from-next : (row : List ℕ) (c x : ℕ) → FilledFrom from f n first row c → c < n → x ≡ f c → FilledFrom from f n first (set row (from + c) x) (c + 1)
-  filled_from-next row c x r l e =
-      record { inside = omega arith; size = length-set row (from + c) x ∙ r.size; written = fill_from-turn from f first c r.written e }
-
-  pub filled_from-all : (row : List ℕ) (c : ℕ) → FilledFrom from f n first row c → n ≤ c → row ≡ fill_from from n f first
-  filled_from-all row c r l =
-      let end : c ≡ n = omega (arith, r.inside) in
-      rw end at r.written
-
--- after h of m holders: what they have in a table is taken off a row of n interties, which has as much as all of them
-pub record Lowering (n m : ℕ) (f : ℕ → ℕ → ℕ) (first row : List ℕ) (h : ℕ) : Type 0 where
-  pub inside : h ≤ m
-  pub lowered : Lowered n f first row h
-
-module _ (n m : ℕ) (f : ℕ → ℕ → ℕ) (first : List ℕ) where
-  pub lowering-none : Lowering n m f first first 0
-  lowering-none = record { inside = zero-le; lowered = record { size = refl; left = λ i l. omega (arith, sum_to-zero (λ h. f h i)) } }
-
-  pub lowering-next : (row after : List ℕ) (h : ℕ) → Lowering n m f first row h → h < m → n ≤ length first →
-      after ≡ fill n (λ c. at row c - f h c) row → Lowering n m f first after (h + 1)
-  lowering-next row after h r l room e =
+  pub rows_next : (m : ℕ) (g : ℕ → ℕ) (table after : List ℕ) → Rows n f first table m → n ≤ 48 → 48 * m + n ≤ length first →
+      after ≡ fill_from (48 * m) n g table → ((i : ℕ) → i < n → g i ≡ f m i) → Rows n f first after (m + 1)
+  rows_next m g table after r narrow room e same =
       record {
-        inside = omega arith;
-        lowered = record {
-          size = ap length e ∙ length-fill n (λ c. at row c - f h c) row ∙ r.lowered.size;
-          left = λ i k.
-              let word : at after i ≡ at row i - f h i = rw e (at_fill n (λ c. at row c - f h c) row i k (omega (arith, r.lowered.size))) in
-              omega (arith, word, r.lowered.left i k, sum_to-more h (λ j. f j i));
-        };
+        size = ap length e ∙ length-fill_from (48 * m) g table n ∙ r.size;
+        done = λ h i k l.
+            ⊎_elim
+            (λ (last : h ≡ m).
+            rw (last, e) (at-fill_from (48 * m) g table n i l (omega (arith, r.size)) ∙ same i l))
+            (λ (before : h < m).
+            rw e (at-fill_from-apart (48 * m) g table n (48 * h + i) (inl (omega arith)) ∙ r.done h i before l))
+            (below_suc (rw (add-one m) at k));
+        rest = λ p l.
+            rw e (at-fill_from-apart (48 * m) g table n p (inr (omega arith)) ∙ r.rest p (omega arith));
       }
 
-  pub lowering-all : (row : List ℕ) (h : ℕ) → Lowering n m f first row h → m ≤ h → Lowered n f first row m
-  lowering-all row h r l =
-      let end : h ≡ m = omega (arith, r.inside) in
-      rw end at r.lowered
+-- after m holders: what they have in a table is taken off a row of n interties
+pub record Lowered (n : ℕ) (f : ℕ → ℕ → ℕ) (first row : List ℕ) (m : ℕ) : Type 0 where
+  pub size : length row ≡ length first
+  pub left : (i : ℕ) → i < n → at row i ≡ at first i - sum_to m (λ h. f h i)
 
-  -- what is left has the next of them
-  pub lowering-room : (row : List ℕ) (h : ℕ) → Lowering n m f first row h → h < m → ((i : ℕ) → i < n → sum_to m (λ j. f j i) ≤ at first i) →
-      (i : ℕ) → i < n → f h i ≤ at row i
-  lowering-room row h r l most i k =
-      omega (arith, r.lowered.left i k, most i k, sum_to-more h (λ j. f j i), sum_to-mono (h + 1) m (λ j. f j i) (omega arith))
+module _ (n : ℕ) (f : ℕ → ℕ → ℕ) (first : List ℕ) where
+  pub lowered_none : Lowered n f first first 0
+  lowered_none = record { size = refl; left = λ i l. omega (arith, sum_to-zero (λ h. f h i)) }
 
--- what a holder has in a table, summed as a part of it
-pub part-total : (h n r : ℕ) (table : List ℕ) → r ≡ sum_to (length (mid_of (48 * h) (48 * h + n - 48 * h) table)) (at (mid_of (48 * h) (48 * h + n - 48 * h) table)) % 2 ^ 64 →
-    48 * h + n ≤ length table → sum_to n (λ i. at_pair table h i) ≤ 960000000 → r ≡ sum_to n (λ i. at_pair table h i)
-part-total h n r table e inside small =
-    let total = sum-part (48 * h) (48 * h + n) n table refl inside in
-    sum-whole r n (λ i. at_pair table h i) (rw total at e) (omega arith)
+  pub lowered-next : (m : ℕ) (row after : List ℕ) → Lowered n f first row m → n ≤ length first →
+      after ≡ fill n (λ c. at row c - f m c) row → Lowered n f first after (m + 1)
+  lowered-next m row after r room e =
+      record {
+        size = ap length e ∙ length-fill n (λ c. at row c - f m c) row ∙ r.size;
+        left = λ i l.
+            let word : at after i ≡ at row i - f m i = rw e (at_fill n (λ c. at row c - f m c) row i l (omega (arith, r.size))) in
+            omega (arith, word, r.left i l, sum_to-more m (λ h. f h i));
+      }
+
+-- one number more taken off
+pub less-more : (start left c x : ℕ) (f : ℕ → ℕ) → left ≡ start - sum_to c f → x ≡ left - f c → x ≡ start - sum_to (c + 1) f
+less-more start left c x f e h = omega (arith, sum_to-more c f)
+
+pub less_none : (start : ℕ) (f : ℕ → ℕ) → start ≡ start - sum_to 0 f
+less_none start f = omega (arith, sum_to-zero f)
+
+-- a number that is no less than some together has the next of them left
+pub next-within : (start n c : ℕ) (f : ℕ → ℕ) → sum_to n f ≤ start → c < n → f c ≤ start - sum_to c f
+next-within start n c f most l = omega (arith, sum_to-more c f, sum_to-mono (c + 1) n f (omega arith))
 
 -- words that are written after those that were filled
 pub fill-further : (from n : ℕ) (f g : ℕ → ℕ) (l : List ℕ) → ((c : ℕ) → c < n → g c ≡ f (from + c)) → fill_from from n g (fill from f l) ≡ fill (from + n) f l
@@ -117,7 +143,7 @@ pub intertie-of : (I h i : ℕ) → i < I → (h * I + i) % I ≡ i
 intertie-of I h i l = mul-add-mod_self_right h I i ∙ mod-eq_of_lt l
 
 -- a holder's row goes after those of the holders before it
-rows-further : (I h : ℕ) (table grants after first : List ℕ) (next : ℕ) → next ≡ h * I →
+pub rows-further : (I h : ℕ) (table grants after first : List ℕ) (next : ℕ) → next ≡ h * I →
     grants ≡ fill next (λ p. at_pair table (p / I) (p % I)) first → after ≡ fill_from next I (λ c. at table (48 * h + c)) grants →
     after ≡ fill (next + I) (λ p. at_pair table (p / I) (p % I)) first
 rows-further I h table grants after first next start e a =
@@ -125,37 +151,8 @@ rows-further I h table grants after first next start e a =
     λ c l. rw (start, holder-of I h c l, intertie-of I h c l) refl in
     rw (a, e) (fill-further next I (λ p. at_pair table (p / I) (p % I)) (λ c. at table (48 * h + c)) first pair)
 
-next_row : (I h next : ℕ) → next ≡ h * I → next + I ≡ (h + 1) * I
+pub next_row : (I h next : ℕ) → next ≡ h * I → next + I ≡ (h + 1) * I
 next_row I h next e = rw (add-one h, suc-mul h I) (ap (λ k. k + I) e)
-
--- a loop that writes holder by holder: after h of m holders
-pub record Copied (I m : ℕ) (table first grants : List ℕ) (next h : ℕ) : Type 0 where
-  pub inside : h ≤ m
-  pub place : next ≡ h * I
-  pub room : next ≤ 48 * h
-  pub size : length grants ≡ length first
-  pub written : grants ≡ fill next (λ p. at_pair table (p / I) (p % I)) first
-
-module _ (I m : ℕ) (table first : List ℕ) where
-  pub copied_none : Copied I m table first first 0 0
-  copied_none = record { inside = zero-le; place = sym (zero-mul I); room = zero-le; size = refl; written = sym (fill-zero (λ p. at_pair table (p / I) (p % I)) first) }
-
-  pub copied_next : (grants after : List ℕ) (next h : ℕ) → Copied I m table first grants next h → h < m → I ≤ 48 →
-      after ≡ fill_from next I (λ c. at table (48 * h + c)) grants → Copied I m table first after (next + I) (h + 1)
-  copied_next grants after next h r l few e =
-      record {
-        inside = omega arith;
-        place = next_row I h next r.place;
-        room = omega (arith, r.room);
-        size = ap length e ∙ length-fill_from next (λ c. at table (48 * h + c)) grants I ∙ r.size;
-        written = rows-further I h table grants after first next r.place r.written e;
-      }
-
-  pub copied_all : (grants : List ℕ) (next h : ℕ) → Copied I m table first grants next h → m ≤ h →
-      grants ≡ fill (m * I) (λ p. at_pair table (p / I) (p % I)) first
-  copied_all grants next h r l =
-      let end : h ≡ m = omega (arith, r.inside) in
-      r.written ∙ ap (λ k. fill k (λ p. at_pair table (p / I) (p % I)) first) (r.place ∙ ap (λ k. k * I) end)
 
 -- a place of the buffer is that of a holder and an intertie
 pub some-interties : (I H p : ℕ) → p < H * I → 0 < I

@@ -3,7 +3,8 @@ ghost use Rattle.std.specs.Prelude.{◌≡◌, ℕ, ◌+◌, ◌*◌, ◌/◌, �
 ghost use Rattle.base.specs.Words.{at, fill};
 ghost use Rattle.base.specs.Limits.{most_holders, most_interties, most_pairs, most_kw, grants_words};
 ghost use Rattle.intertie_shares.specs.Pairs.{at_pair};
-ghost use Rattle.closing.specs.Workers.Work.{fill_from};
+ghost use Rattle.closing.specs.Close.{close_grants};
+ghost use Rattle.closing.specs.Workers.Work.{fill_from, Closable, Granted};
 
 use state::layout::ROW_WORDS;
 
@@ -20,8 +21,8 @@ fn copy_row(table: &[u64], from: usize, count: usize, grants: &mut [u32], to: us
     }
 }
 
-// Writes the kW of every pair: the first numbers of each holder's row, one row after the other.
-pub(super) fn write_grants(table: &[u64], holders: usize, interties: usize, grants: &mut [u32])
+// Copies the first numbers of each holder's row, one row after the other.
+fn copy_rows(table: &[u64], holders: usize, interties: usize, grants: &mut [u32])
     requires { (holders ≤ most_holders) × (interties ≤ most_interties) × (most_pairs ≤ length table.now)
         × (grants_words ≤ length grants.old)
         × ((h i : ℕ) → h < holders → i < interties → at_pair table.now h i ≤ most_kw) }
@@ -35,4 +36,14 @@ pub(super) fn write_grants(table: &[u64], holders: usize, interties: usize, gran
         next += interties;
         holder += 1;
     }
+}
+
+// Writes this closing's kW of every pair.
+pub(super) fn write_grants(state: &[u32], table: &[u64], grants: &mut [u32])
+    requires { Closable state.now × Granted state.now table.now × (grants_words ≤ length grants.old) }
+    ensures { grants.new ≡ close_grants state.now grants.old }
+{
+    let interties = state::intertie_count(state) as usize;
+    let holders = state::holder_count(state) as usize;
+    copy_rows(table, holders, interties, grants);
 }

@@ -1,4 +1,6 @@
 // Close: grants pending kilowatts on every intertie (docs/RULES.md, "Calls of the year").
+#![tactic(auto)]
+
 mod applying;
 mod buffer;
 mod sharing;
@@ -23,12 +25,10 @@ pub fn close(state: &mut [u32], grants: &mut [u32]) -> Answer
     if refusal != 0 {
         return Answer::refused(refusal);
     }
-    let interties = state::intertie_count(state) as usize;
-    let holders = state::holder_count(state) as usize;
     let mut granted = [0u64; MOST_PAIRS];
-    let answer = sharing::share_out_pending(state, interties, holders, &mut granted);
-    buffer::write_grants(&granted, holders, interties, grants);
-    applying::apply(state, interties, holders, &granted);
+    let answer = sharing::share_out_pending(state, &mut granted);
+    buffer::write_grants(state, &granted, grants);
+    applying::apply(state, &granted);
     answer
 }
 

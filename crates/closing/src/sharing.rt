@@ -9,27 +9,24 @@ use super::tables;
 use base::Answer;
 use base::limits::{MOST_HOLDERS, MOST_INTERTIES, MOST_PAIRS};
 use state::layout;
-use state::layout::ROW_WORDS;
 
 // Writes what each pair is granted into a table, and answers kW and passes over all interties. In
 // stage 1 nothing is pending, so nothing is granted.
-pub(super) fn share_out_pending(
-    state: &[u32],
-    interties: usize,
-    holders: usize,
-    table: &mut [u64],
-) -> Answer
-    requires { Closable state.now interties holders × (length table.old ≡ most_pairs) }
+pub(super) fn share_out_pending(state: &[u32], table: &mut [u64]) -> Answer
+    requires { Closable state.now × (length table.old ≡ most_pairs) }
     ensures { (result ≡ granted (close_kw state.now) (close_passes state.now))
-        × Granted state.now interties holders table.new }
+        × Granted state.now table.new }
 {
+    let interties = state::intertie_count(state) as usize;
+    let holders = state::holder_count(state) as usize;
     let mut pools = [0u64; MOST_INTERTIES];
-    tables::read_words(state, layout::UNASSIGNED as usize, interties, &mut pools);
+    tables::read_row(state, layout::UNASSIGNED as usize, interties, &mut pools, 0);
     let mut claims = [0u64; MOST_PAIRS];
-    tables::read_words(
+    tables::read_pairs(
         state,
         layout::PENDING as usize,
-        ROW_WORDS * holders,
+        holders,
+        interties,
         &mut claims,
     );
     let mut weights = [0u64; MOST_HOLDERS];

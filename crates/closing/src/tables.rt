@@ -1,27 +1,45 @@
-// Tables of the pairs, with a row of 48 numbers for each holder: words of the state are read into them, and their rows are
-// taken off others.
+// Tables of the pairs, with a row of 48 numbers for each holder: words of the state are read into their
+// rows, and their rows are taken off others.
 ghost use Rattle.std.specs.Prelude.{◌≡◌, ℕ, ◌+◌, ◌-◌, ◌*◌, ◌≤◌, ◌<◌, length};
 ghost use Rattle.base.specs.Sums.{sum_to};
 ghost use Rattle.base.specs.Words.{at, fill};
 ghost use Rattle.intertie_shares.specs.Pairs.{at_pair};
-ghost use Rattle.base.specs.Limits.{most_holders, most_interties, most_pairs, most_total_kw};
-ghost use Rattle.state.specs.Layout.{row_words, place, whole_rows};
-ghost use Rattle.closing.specs.Workers.Work.{Lowered};
+ghost use Rattle.base.specs.Limits.{state_words, most_holders, most_interties, most_pairs};
+ghost use Rattle.state.specs.Layout.{row_words, place, last_row, whole_rows};
+ghost use Rattle.closing.specs.Workers.Work.{fill_from};
 
-use base::vectors::sum_of;
 use state::layout::ROW_WORDS;
 
-// Reads words of the state, from the first of a row on, into the first numbers of a table: a row's own, or those of the
-// rows of several holders.
-pub(super) fn read_words(state: &[u32], row: usize, count: usize, table: &mut [u64])
-    requires { (row < whole_rows) × (row_words * row + count ≤ length state.now) × (count ≤ length table.old) }
-    ensures { table.new ≡ fill count (λ (c : ℕ). at state.now (place row c)) table.old }
+// Reads the first words of a row of the state into a table, from one of its numbers on.
+pub(super) fn read_row(state: &[u32], row: usize, count: usize, table: &mut [u64], to: usize)
+    requires { (state_words ≤ length state.now) × (row < whole_rows) × (count ≤ row_words) × (to + count ≤ length table.old) }
+    ensures { table.new ≡ fill_from to count (λ (c : ℕ). at state.now (place row c)) table.old }
 {
     let first = ROW_WORDS * row;
-    let mut c = 0;
-    while c < count {
-        table[c] = state[first + c] as u64;
-        c += 1;
+    let mut column = 0;
+    while column < count {
+        table[to + column] = state[first + column] as u64;
+        column += 1;
+    }
+}
+
+// Reads the words of a field of the pairs into a table.
+pub(super) fn read_pairs(
+    state: &[u32],
+    field: usize,
+    holders: usize,
+    interties: usize,
+    table: &mut [u64],
+)
+    requires { (state_words ≤ length state.now) × (field ≤ last_row) × (holders ≤ most_holders) × (interties ≤ most_interties)
+        × (most_pairs ≤ length table.old) }
+    ensures { (h i : ℕ) → h < holders → i < interties →
+        at_pair table.new h i ≡ at state.now (place (field + h) i) }
+{
+    let mut holder = 0;
+    while holder < holders {
+        read_row(state, field + holder, interties, table, ROW_WORDS * holder);
+        holder += 1;
     }
 }
 
@@ -44,7 +62,8 @@ pub(super) fn take_off_holders(table: &[u64], holders: usize, interties: usize, 
     requires { (holders ≤ most_holders) × (interties ≤ most_interties) × (most_pairs ≤ length table.now)
         × (interties ≤ length row.old)
         × ((i : ℕ) → i < interties → sum_to holders (λ (h : ℕ). at_pair table.now h i) ≤ at row.old i) }
-    ensures { Lowered interties (at_pair table.now) row.old row.new holders }
+    ensures { (i : ℕ) → i < interties →
+        at row.new i ≡ at row.old i - sum_to holders (λ (h : ℕ). at_pair table.now h i) }
 {
     let mut holder = 0;
     while holder < holders {
@@ -53,20 +72,16 @@ pub(super) fn take_off_holders(table: &[u64], holders: usize, interties: usize, 
     }
 }
 
-// Takes what each holder has in a table, over the interties, off a row of the holders, which has as much.
-pub(super) fn take_off_rows(table: &[u64], holders: usize, interties: usize, row: &mut [u64])
-    requires { (holders ≤ most_holders) × (interties ≤ most_interties) × (most_pairs ≤ length table.now)
-        × (holders ≤ length row.old)
-        × ((h : ℕ) → h < holders → (sum_to interties (λ (i : ℕ). at_pair table.now h i) ≤ at row.old h)
-        × (sum_to interties (λ (i : ℕ). at_pair table.now h i) ≤ most_total_kw)) }
-    ensures { let before = row.old in let table = table.entry.now in
-        row.new ≡ fill holders (λ (h : ℕ). at before h - sum_to interties (λ (i : ℕ). at_pair table h i)) before }
+// What is left of a number once some numbers of a table, from one of them on, which are no more, are taken off.
+pub(super) fn left_of(start: u64, table: &[u64], from: usize, count: usize) -> u64
+    requires { (from + count ≤ length table.now) × (sum_to count (λ (c : ℕ). at table.now (from + c)) ≤ start) }
+    ensures { result ≡ start - sum_to count (λ (c : ℕ). at table.now (from + c)) }
 {
-    let mut holder = 0;
-    while holder < holders {
-        let from = ROW_WORDS * holder;
-        let granted = sum_of(&table[from..from + interties]);
-        row[holder] -= granted;
-        holder += 1;
+    let mut left = start;
+    let mut c = 0;
+    while c < count {
+        left -= table[from + c];
+        c += 1;
     }
+    left
 }

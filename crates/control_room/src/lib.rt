@@ -1,5 +1,7 @@
 // What a control room asks for: the figures of an intertie and of a holder, from the year's state and
 // from a list of calls with its answers.
+#![tactic(auto)]
+
 mod sums;
 mod trades;
 
@@ -12,7 +14,7 @@ use state::layout;
 
 // The figures of an intertie, in kW: reserved is E, P and N of all holders on it, placed and taken are
 // those of all holders.
-#[derive(Drop)]
+#[derive(Clone, Copy)]
 pub struct IntertieFigures {
     pub limit: u64,
     pub outside: u64,
@@ -24,7 +26,7 @@ pub struct IntertieFigures {
 
 // The figures of a holder, in kW: bought and sold by the granted trades of the list, placed and locked
 // over all interties.
-#[derive(Drop)]
+#[derive(Clone, Copy)]
 pub struct HolderFigures {
     pub step_5_share: u64,
     pub bought: u64,

@@ -1,4 +1,6 @@
 // Placed kW in their holder's hands: moved to another holder, or locked for years to come (docs/RULES.md, "Calls of the year").
+#![tactic(auto)]
+
 ghost use Rattle.std.specs.Prelude.{◌≡◌, not, ◌||◌, ◌-◌, ◌≤◌, ltb, eqb};
 ghost use Rattle.base.specs.Limits.{most_interties, most_kw};
 ghost use Rattle.base.specs.Stages.{second_requests_stage, open_stage};

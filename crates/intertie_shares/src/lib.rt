@@ -1,5 +1,7 @@
 // A share-out on each intertie, over the holders' claims there: Steps 4a and 4b and the closings make theirs by it
 // (docs/RULES.md, "Opening" and "Calls of the year").
+#![tactic(auto)]
+
 ghost use Rattle.std.specs.Prelude.{◌≡◌, ◌+◌, ◌≤◌, min, leb, eqb, length};
 ghost use Rattle.base.specs.Choice.{pick};
 ghost use Rattle.base.specs.Limits.{most_kw, most_load_share};
@@ -54,7 +56,7 @@ fn settle(refusal: u32, output: &mut [u64])
 // Scatters the holders' words over an intertie of a table.
 fn scatter(words: &[u64], intertie: usize, table: &mut [u64])
     requires { InTable intertie (length words.now) table.old }
-    ensures { let words = words.entry.now in
+    ensures { let words = words.now in
         table.new ≡ fill_column intertie (length words) (at words) table.old }
 {
     let mut h = 0;

@@ -12,7 +12,7 @@ use base::encoding;
 use text::Number;
 
 // A call as read from a line: its kind (base::encoding), three numbers and its kW.
-#[derive(Drop)]
+#[derive(Clone, Copy)]
 pub struct Call {
     pub kind: u32,
     pub a: u32,
@@ -22,7 +22,7 @@ pub struct Call {
 }
 
 // What a line is.
-#[derive(Drop)]
+#[derive(Clone, Copy)]
 pub enum Line {
     // A blank line, or one that starts with #.
     Comment,
@@ -32,7 +32,7 @@ pub enum Line {
 }
 
 // A word as a number, or the fault that it is none.
-#[derive(Drop)]
+#[derive(Clone, Copy)]
 pub struct Figure {
     pub fault: u32,
     pub value: u32,

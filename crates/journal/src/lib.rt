@@ -1,4 +1,6 @@
 // Reads the text of a journal, a call a line, into the words that `lists::run_calls` runs.
+#![tactic(auto)]
+
 mod calls;
 pub mod faults;
 mod lines;
@@ -13,7 +15,7 @@ use base::encoding::CALL_WORDS;
 // What reading a journal answers. Fault 0: `count` calls stand in the first words, CALL_WORDS to each, and
 // `line` is 0. Otherwise why a line can't be read (faults), the number of the first such line, counted from 1,
 // and count 0.
-#[derive(Drop)]
+#[derive(Clone, Copy)]
 pub struct Journal {
     pub fault: u32,
     pub line: usize,

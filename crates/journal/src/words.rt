@@ -9,7 +9,7 @@ const WORD: u32 = 0;
 const BLANK: u32 = 1;
 
 // Where a word starts, and where it ends.
-#[derive(Drop)]
+#[derive(Clone, Copy)]
 pub struct Span {
     pub start: usize,
     pub end: usize,

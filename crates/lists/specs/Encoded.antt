@@ -1,5 +1,6 @@
 -- A list of calls as 32-bit words (docs/RULES.md, "Balances of whole lists"), and what running it over lent words leaves.
-use Rattle.std.specs.Prelude.{ℕ, zero, suc, ◌+◌, ◌*◌, ◌/◌, ◌%◌, ◌^◌, Bool, true, false, ◌&&◌, List, [], ◌∷◌, ◌++◌, leb, eqb, length, take, drop, set}
+use Rattle.std.specs.Prelude.{ℕ, zero, suc, ◌+◌, ◌*◌, ◌/◌, ◌%◌, ◌^◌, Bool, true, false, ◌&&◌, List, [], ◌∷◌, ◌++◌, leb, eqb}
+use Rattle.std.specs.Prelude.{length, take, drop, set}
 use Rattle.base.specs.Choice.{pick}
 use Rattle.base.specs.Encoding.{call_words, answer_words, trade_call, request_call, close_call, take_call, move_call, lock_call}
 use Rattle.base.specs.Limits.{grants_words}

@@ -10,7 +10,8 @@ use Rattle.opening.specs.Open.{open_refusal, opened}
 use Rattle.balances.specs.Calls.{Call, Result}
 use Rattle.balances.specs.Amounts.{added, total}
 use Rattle.balances.specs.Balances.{Balances, StillSays}
-use Rattle.lists.specs.Encoded.{call_count, words_of, is_closing, closings_before, lent_to, call_at, calls_of, accepted, result_at, Ran, run}
+use Rattle.lists.specs.Encoded.{call_count, words_of, is_closing, closings_before, lent_to, call_at, calls_of, accepted}
+use Rattle.lists.specs.Encoded.{result_at, Ran, run}
 
 -- the three words of call n's answer: refusal, kW, passes
 abbrev pub AnswerStands : List ℕ → ℕ → Answer → Type 0

@@ -1,4 +1,6 @@
 // A list of calls as words, and a function that runs one. What holds after every list stands in `balances`.
+#![tactic(auto)]
+
 mod encoded;
 mod running;
 

@@ -3,7 +3,7 @@ ghost use Rattle.std.specs.Prelude.{◌≡◌, true, ◌+◌, ◌*◌, ◌≤◌
 ghost use Rattle.base.specs.Choice.{pick};
 ghost use Rattle.base.specs.Encoding.{call_words, answer_words};
 ghost use Rattle.base.specs.Limits.{grants_words};
-ghost use Rattle.balances.specs.Calls.{result, after};
+ghost use Rattle.balances.specs.Calls.{result as call_result, after};
 ghost use Rattle.lists.specs.Encoded.{call_count, calls_of, accepted, grants_after, answers_after};
 ghost use Rattle.lists.specs.Encoded.{is_closing, numbered, call_of, with_lent, with_answer};
 
@@ -13,10 +13,10 @@ use base::{Answer, encoding};
 // Runs all calls of a list.
 pub(super) fn run_all(calls: &[u32], state: &mut [u32], grants: &mut [u32], answers: &mut [u64])
     requires { accepted calls.now (length answers.old) ≡ true }
-    ensures* { λ _. let words = calls.now in let s = state.old in let g = grants.old in
-        ⌜ (state.new ≡ after (calls_of words g) s)
+    ensures { let words = calls.now in let s = state.old in let g = grants.old in
+        (state.new ≡ after (calls_of words g) s)
         × (grants.new ≡ grants_after words s g (call_count words))
-        × (answers.new ≡ answers_after words s g answers.old (call_count words)) ⌝ }
+        × (answers.new ≡ answers_after words s g answers.old (call_count words)) }
 {
     let count = calls.len() / encoding::CALL_WORDS;
     let mut n = 0;
@@ -40,12 +40,12 @@ fn run_call(
     answers: &mut [u64],
 ) -> usize
     requires { (length words.now ≡ call_words) × (answer_words * n + 2 < length answers.old) × (start ≤ length grants.old) }
-    ensures* { λ r. let w = words.now in let g = grants.old in
-        let gives = result (call_of w (take grants_words (drop start g))) state.old in
-        ⌜ (r ≡ pick (is_closing w) (min (start + grants_words) (length g)) start)
+    ensures { let w = words.now in let g = grants.old in
+        let gives = call_result (call_of w (take grants_words (drop start g))) state.old in
+        (result ≡ pick (is_closing w) (min (start + grants_words) (length g)) start)
         × (state.new ≡ gives.state)
         × (grants.new ≡ with_lent w g start gives.grants)
-        × (answers.new ≡ with_answer answers.old n gives.answer) ⌝ }
+        × (answers.new ≡ with_answer answers.old n gives.answer) }
 {
     let kind = words[0];
     if kind == encoding::CLOSE {
@@ -62,8 +62,8 @@ fn run_call(
 
 // Runs a call that is no closing.
 fn numbered_call(state: &mut [u32], kind: u32, a: u32, b: u32, c: u32, kw: u64) -> Answer
-    ensures* { λ r. let gives = result (numbered kind a b c kw) state.old in
-        ⌜ (r ≡ gives.answer) × (state.new ≡ gives.state) ⌝ }
+    ensures { let gives = call_result (numbered kind a b c kw) state.old in
+        (result ≡ gives.answer) × (state.new ≡ gives.state) }
 {
     if kind == encoding::TRADE {
         return trading::trade(state, a, b, kw);
@@ -83,7 +83,7 @@ fn numbered_call(state: &mut [u32], kind: u32, a: u32, b: u32, c: u32, kw: u64) 
 // Writes the words of the answer to call n.
 fn store_answer(answers: &mut [u64], n: usize, answer: Answer)
     requires { answer_words * n + 2 < length answers.old }
-    ensures* { λ _. ⌜ answers.new ≡ with_answer answers.old n answer ⌝ }
+    ensures { answers.new ≡ with_answer answers.old n answer }
 {
     let place = encoding::ANSWER_WORDS * n;
     answers[place] = answer.refusal as u64;

@@ -1,12 +1,12 @@
 -- What a stored row or table leaves, where it fits.
-use Prim.Native.Nat.{ℕ, ◌+◌, ◌-◌, ◌*◌, ◌%◌, ◌≤◌, ◌<◌}
-use mathlib.Core.Path.{◌≡◌, sym, ap, ◌∙◌}
+use Prim.Native.Nat.{ℕ, ◌+◌, ◌-◌, ◌≤◌, ◌<◌}
+use mathlib.Core.Path.{◌≡◌, ap, ◌∙◌}
 use mathlib.Core.Bool.{true, ◌&&◌}
 use mathlib.Core.List.{List}
 use native.Mathlib.Omega.{arith}
 use lib.Dec.{leb}
 use lib.ListN.{length, replicate, length-replicate, get_or-replicate}
-use borrow.Author.Tests.{leb-true, le-leb}
+use borrow.Author.Tests.{leb-true}
 use borrow.Rule.Slice.PartMut.{mid_of, mid_len}
 use lib.Seq.{get_or-take, get_or-drop}
 use Rattle.base.specs.Choice.{pick}
@@ -14,8 +14,8 @@ use Rattle.base.specs.Words.{at}
 use Rattle.base.proofs.ChoiceLaws.{pick_true, and_left, and_right}
 use Rattle.base.specs.Limits.{state_words}
 use Rattle.state_rows.specs.Rows.{fill_row, fill_pairs, fit_row, fit_pairs}
-use Rattle.state_rows.proofs.RowLaws.{fill_row-same, fill_pairs-same}
-use Rattle.state_rows.proofs.FitLaws.{FitRow, row_fits, FitPairs, pairs-fit}
+use Rattle.state_rows.proofs.RowLaws.{fill_row-same}
+use Rattle.state_rows.proofs.FitLaws.{row_fits, pairs-fit}
 use Rattle.opened_state.specs.Write.{low, row_low, pair_low, fit_sizes}
 use Rattle.opened_state.specs.Workers.Sizes.{Sizes}
 

@@ -6,8 +6,10 @@ use Rattle.base.specs.Limits.{most_interties, most_holders, state_words}
 use Rattle.base.specs.Stages.{trading_stage}
 use Rattle.base.specs.Words.{at}
 use Rattle.sheet_reading.specs.Tables.{limit_slot, outside_slot, load_share_slot, existing_slot}
-use Rattle.state.specs.Layout.{interties_at, holders_at, limit_row, outside_row, load_share_row, step5_share_row, step7_total_row, reserved_row}
-use Rattle.state.specs.Layout.{existing_row, pre_ra_row, new_use_row, stage_at, last_day_at, unassigned_row, unplaced_row, sellers_row, last_week_row}
+use Rattle.state.specs.Layout.{interties_at, holders_at, limit_row, outside_row, load_share_row, step5_share_row}
+use Rattle.state.specs.Layout.{step7_total_row, reserved_row}
+use Rattle.state.specs.Layout.{existing_row, pre_ra_row, new_use_row, stage_at, last_day_at, unassigned_row, unplaced_row}
+use Rattle.state.specs.Layout.{sellers_row, last_week_row}
 use Rattle.state.specs.Layout.{takings_row, placed_row, taken_row, locked_row, term_row, pending_row}
 use Rattle.state_rows.specs.Rows.{fill_row, fill_pairs}
 

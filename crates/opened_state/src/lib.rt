@@ -1,5 +1,7 @@
 // The opened state (docs/RULES.md, "The year's state"), written from the sheet's table of kilowatts and the steps'
 // figures, group by group in the order of its rows. Apart from opening for the prover's time.
+#![tactic(auto)]
+
 ghost use Rattle.std.specs.Prelude.{◌≡◌, ℕ, ◌+◌, ◌%◌, ◌≤◌, ◌<◌, length};
 ghost use Rattle.base.specs.Limits.{most_interties, most_holders, state_words};
 ghost use Rattle.base.specs.Words.{at};

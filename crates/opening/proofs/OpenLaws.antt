@@ -1,10 +1,10 @@
 -- The steps one after the other: what `steps_2_to_7` hands from each to the next, and what it leaves.
-use Prim.Native.Nat.{ℕ, ◌+◌, ◌-◌, ◌≤◌, ◌<◌}
+use Prim.Native.Nat.{ℕ, ◌+◌, ◌≤◌, ◌<◌}
 use mathlib.Core.Path.{◌≡◌, refl, sym, ap, ◌∙◌}
-use mathlib.Core.Bool.{true, ◌&&◌}
+use mathlib.Core.Bool.{◌&&◌}
 use mathlib.Core.List.{List, ◌++◌}
 use native.Mathlib.Omega.{arith}
-use lib.ListN.{length, take, drop, replicate, length-replicate, get_or-append}
+use lib.ListN.{length, take, replicate, length-replicate, get_or-append}
 use lib.Seq.{length-take-le}
 use lib.Dec.{leb}
 use borrow.Author.Tests.{le-leb}
@@ -16,7 +16,7 @@ use Rattle.base.proofs.WordLaws.{at-tab, length-tab, tab-same, at_fill}
 use Rattle.base.specs.Limits.{state_words}
 use Rattle.intertie_shares.specs.Pairs.{fill_table}
 use Rattle.intertie_shares.proofs.PairLaws.{length-fill_table, at-fill_table}
-use Rattle.sheet_reading.specs.Tables.{existing_slot, load_share_slot}
+use Rattle.sheet_reading.specs.Tables.{existing_slot}
 use Rattle.step_5.specs.Shares.{step5_shares}
 use Rattle.step_5.proofs.Promise.{promise}
 use Rattle.steps.specs.Inputs.{Inputs}
@@ -31,7 +31,7 @@ use Rattle.intertie_shares.specs.Pairs.{pair_at}
 use Rattle.steps_2_to_4.specs.Workers.Vectors.{Row, Pairs}
 use Rattle.steps_2_to_4.specs.Reserved.{Outcome, reserved}
 use Rattle.steps_2_to_4.proofs.StepLaws.{InRange, tables-fit, reserved-is}
-use Rattle.opened_state.specs.Write.{fit_sizes, written}
+use Rattle.opened_state.specs.Write.{written}
 use Rattle.opening.specs.Workers.Figures.{KwTables, held_from, HeldGiven, HeldTaken}
 use Rattle.opening.specs.Opened.{opened_state}
 use Rattle.opening.proofs.WriteLaws.{Given, opened-written}

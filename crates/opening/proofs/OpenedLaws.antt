@@ -1,15 +1,14 @@
 -- What each word of an opened state says.
 use Prim.Native.Nat.{ℕ, ◌+◌, ◌≤◌, ◌<◌, zero-le}
-use mathlib.Core.Path.{◌≡◌, refl, sym, ap, ◌∙◌}
+use mathlib.Core.Path.{◌≡◌, refl, ◌∙◌}
 use mathlib.Core.List.{List}
 use native.Mathlib.Nat.{le_refl, le_trans, lt_of_lt_of_le}
 use native.Mathlib.Omega.{arith}
 use lib.Dec.{lit<, lit≤}
 use lib.ListN.{length, set, length-set}
-use Rattle.base.specs.Words.{at}
 use Rattle.base.specs.Limits.{state_words}
-use Rattle.state.specs.Layout.{place, interties, holders, limit_of, outside_of, load_share_of, step5_share_of, step7_total_of, reserved_of, existing_of, pre_ra_of, new_use_of, stage_of, last_day_of, unassigned_of, unplaced_of, sellers_of, last_week_of, takings_of, placed_of, taken_of, locked_of, term_of, pending_of, interties_at, holders_at, stage_at, last_day_at}
-use Rattle.state.proofs.FrameLaws.{at_stored, at-other-column, SameRows, same_refl, same-trans, same-within, same-store-past}
+use Rattle.state.specs.Layout.{interties, holders, limit_of, outside_of, load_share_of, step5_share_of, step7_total_of, reserved_of, existing_of, pre_ra_of, new_use_of, stage_of, last_day_of, unassigned_of, unplaced_of, sellers_of, last_week_of, takings_of, placed_of, taken_of, locked_of, term_of, pending_of, interties_at, holders_at, stage_at, last_day_at}
+use Rattle.state.proofs.FrameLaws.{at_stored, at-other-column, SameRows, same-trans, same-within, same-store-past}
 use Rattle.state_rows.specs.Rows.{fill_row, fill_pairs}
 use Rattle.state_rows.proofs.RowLaws.{length-fill_row, at-fill_row, same-fill_row-past, length-fill_pairs, at-fill_pairs, same-fill_pairs-past}
 use Rattle.steps.specs.Inputs.{Inputs}

@@ -1,21 +1,18 @@
 -- A state that opening left is orderly.
-use Prim.Native.Nat.{ℕ, ◌+◌, ◌*◌, ◌^◌, ◌≤◌, ◌<◌, zero-le}
-use mathlib.Core.Path.{◌≡◌, refl, sym, ap, ◌∙◌}
+use Prim.Native.Nat.{ℕ, ◌≤◌, ◌<◌, zero-le}
+use mathlib.Core.Path.{◌≡◌, ap, ◌∙◌}
 use mathlib.Core.List.{List}
-use mathlib.Core.Logic.{◌⊎◌}
-use native.Mathlib.Nat.{le_trans, le_of_eq}
 use native.Mathlib.Omega.{arith}
-use lib.Dec.{lit≤}
 use lib.Pow.{pow_pos}
 use Rattle.base.specs.Sums.{sum_to}
 use Rattle.base.proofs.SumLaws.{sum_to-same, sum_to-zeros}
-use Rattle.state.specs.Layout.{interties, holders, limit_of, outside_of, existing_of, pre_ra_of, new_use_of, unassigned_of, placed_of, taken_of, pending_of, unplaced_of, on_intertie, of_holder}
+use Rattle.state.specs.Layout.{interties, holders, limit_of, existing_of, pre_ra_of, new_use_of, placed_of, taken_of, pending_of, unplaced_of, on_intertie, of_holder}
 use Rattle.state.specs.Orderly.{intertie_kw}
 use Rattle.state.proofs.OrderlyLaws.{Orderly}
 use Rattle.steps.specs.Inputs.{Inputs}
 use Rattle.steps.specs.Step4a.{existing_on, pre_ra_granted}
 use Rattle.steps.specs.Step4b.{new_use_granted}
-use Rattle.steps.specs.Step5to7.{held, step5_share, step7_total, unassigned, reserved_on}
+use Rattle.steps.specs.Step5to7.{step5_share}
 use Rattle.steps.specs.Valid.{Valid}
 use Rattle.steps.proofs.BoundLaws.{reserved-parts, balance, total-most, held-total, shares-unassigned, held-most, share-most, step7-total-most}
 use Rattle.opening.proofs.OpenedLaws.{Opened}

@@ -1,12 +1,9 @@
 -- Rows and tables that say what the steps give are written as the opened state.
-use Prim.Native.Nat.{ℕ, ◌+◌, ◌%◌, ◌≤◌, ◌<◌}
-use mathlib.Core.Path.{◌≡◌, refl, sym, ap, ◌∙◌}
+use Prim.Native.Nat.{ℕ, ◌+◌, ◌≤◌, ◌<◌}
+use mathlib.Core.Path.{◌≡◌, refl, ap, ◌∙◌}
 use mathlib.Core.List.{List}
 use native.Mathlib.Nat.{mod-eq_of_lt}
 use native.Mathlib.Omega.{arith}
-use lib.ListN.{length, set}
-use Rattle.base.specs.Words.{at}
-use Rattle.state.specs.Layout.{interties_at, holders_at, stage_at, last_day_at}
 use Rattle.state_rows.specs.Rows.{fill_row, fill_pairs}
 use Rattle.state_rows.proofs.RowLaws.{fill_row-same, fill_pairs-same}
 use Rattle.steps.specs.Inputs.{Inputs}

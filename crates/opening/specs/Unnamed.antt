@@ -4,7 +4,8 @@ use Rattle.std.specs.Prelude.{ℕ, ◌<◌, ◌≡◌, List, ◌≢◌}
 use Rattle.base.specs.Words.{at}
 use Rattle.sheet_records.specs.Sheet.{interties, holders}
 use Rattle.state.specs.Layout.{interties_at, holders_at, stage_at, last_day_at, limit_at, outside_at, unassigned_at}
-use Rattle.state.specs.Layout.{load_share_at, step5_share_at, step7_total_at, reserved_at, unplaced_at, sellers_at, last_week_at, takings_at}
+use Rattle.state.specs.Layout.{load_share_at, step5_share_at, step7_total_at, reserved_at, unplaced_at, sellers_at, last_week_at}
+use Rattle.state.specs.Layout.{takings_at}
 use Rattle.state.specs.Layout.{existing_at, pre_ra_at, new_use_at, placed_at, taken_at, locked_at, term_at, pending_at}
 use Rattle.opening.specs.Open.{opened}
 

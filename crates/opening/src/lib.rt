@@ -1,4 +1,6 @@
 // Opening, Steps 1 to 7 (docs/RULES.md, "Opening"): from a sheet to the year's state.
+#![tactic(auto)]
+
 mod figures;
 mod year;
 

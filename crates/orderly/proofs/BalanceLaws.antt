@@ -1,18 +1,16 @@
 -- Why sums in 32 bits tell whether limits in range are met: a pair's kW are below 2 ^ 25 there, and 32 such pairs add up to less than 2 ^ 32.
-use Rattle.std.proofs.Common.{◌≡◌, ℕ, ◌+◌, ◌*◌, ◌/◌, ◌%◌, ◌^◌, ◌<◌, ◌≤◌, min, Bool, true, false, ◌&&◌, eqb, ltb, leb, List, length, set, replicate, sym, refl, ap, ◌∙◌, zero-le, mod-eq_of_lt, arith, ltb-false, ltb-true, lt-ltb}
-use mathlib.Core.Bool.{and_assoc, and-true}
+use Rattle.std.proofs.Common.{◌≡◌, ℕ, ◌+◌, ◌*◌, ◌%◌, ◌^◌, ◌<◌, ◌≤◌, Bool, true, ◌&&◌, eqb, ltb, leb, List, length, sym, refl, ap, ◌∙◌, mod-eq_of_lt, arith, ltb-true, lt-ltb}
+use mathlib.Core.Bool.{and_assoc}
 use native.Mathlib.Nat.{mod-add-mod, add-mod-mod}
 use lib.Bits.{bit_or, or_lt, or_add_and, and_le_l, and_le_r}
-use lib.ListN.{length-replicate, get_or-replicate}
-use Rattle.base.specs.Choice.{pick}
 use Rattle.base.specs.Sums.{sum_to, all_to}
 use Rattle.base.specs.Words.{at, fill}
-use Rattle.base.proofs.ChoiceLaws.{and_both, same_test, and_left, and_right, pick-by}
-use Rattle.base.proofs.SumLaws.{sum_to-add, sum_to-bound, sum_to-term, all_to-same, sum_to-more, each-le, each-eq, each-pair, all-pairs, all_to-both, all_to-zero, all_to-next, all_more, all_done}
-use Rattle.base.proofs.WordLaws.{at_fill, length-fill, fill-zero, fill-place, fill-turn, fill_done}
+use Rattle.base.proofs.ChoiceLaws.{and_both, same_test, and_left, and_right}
+use Rattle.base.proofs.SumLaws.{sum_to-add, sum_to-bound, sum_to-term, all_to-same, sum_to-more, each-le, each-eq, each-pair, all-pairs, all_to-both, all_to-next, all_more}
+use Rattle.base.proofs.WordLaws.{at_fill, length-fill}
 use Rattle.state.specs.Layout.{interties, holders, limit_of, existing_of, pre_ra_of, new_use_of, placed_of, taken_of}
 use Rattle.state.specs.Orderly.{limits_in_range, balanced, intertie_kw}
-use Rattle.orderly.specs.Workers.Check.{Sized, word_within, pair_kw, pair_fits, two_kw, two_fit, summed, Cleared, Added, limit_met}
+use Rattle.orderly.specs.Workers.Check.{pair_kw, pair_fits, two_kw, two_fit, Cleared, Added, limit_met}
 
 -- the kW of a pair, its words added in 32 bits
 pub pair-kw-wraps :
@@ -95,127 +93,100 @@ pub bits-turn : (n : ℕ) (p : ℕ → Bool) (bits b : ℕ) → ltb bits (2 ^ 25
 bits-turn n p bits b e t = or-below 25 bits b ∙ all_more n p (ltb bits (2 ^ 25)) (ltb b (2 ^ 25)) e t
 
 -- the kW of two pairs, in 32 bits
-counted-kw : (both : Bool) (kw : ℕ) {b k : ℕ} → b ≡ kw % 2 ^ 32 → k ≡ pick {A = ℕ} both b 0 → k ≡ pick both kw 0 % 2 ^ 32
-counted-kw true kw e f = f ∙ e
-counted-kw false kw e f = f
-
-pub two-kw-wraps : (s : List ℕ) (both : Bool) (h i : ℕ) {a b k r : ℕ} → a ≡ pair_kw s h i % 2 ^ 32 → b ≡ pair_kw s (h + 1) i % 2 ^ 32 →
-    k ≡ pick {A = ℕ} both b 0 → r ≡ (a + k) % 2 ^ 32 → r ≡ two_kw s both h i % 2 ^ 32
-unfolding two_kw
-two-kw-wraps s both h i {a} {b} {k} {r} e f g w =
+pub two-kw-wraps : (s : List ℕ) (h i : ℕ) {a b r : ℕ} → a ≡ pair_kw s h i % 2 ^ 32 → b ≡ pair_kw s (h + 1) i % 2 ^ 32 → r ≡ (a + b) % 2 ^ 32 → r ≡ two_kw s h i % 2 ^ 32
+two-kw-wraps s h i {a} {b} {r} e f w =
     w
-    ∙ ap (λ (x : ℕ). (x + k) % 2 ^ 32) e
-    ∙ mod-add-mod (pair_kw s h i) (2 ^ 32) k
-    ∙ ap (λ (x : ℕ). (pair_kw s h i + x) % 2 ^ 32) (counted-kw both (pair_kw s (h + 1) i) f g)
-    ∙ add-mod-mod (pair_kw s h i) (pick both (pair_kw s (h + 1) i) 0) (2 ^ 32)
+    ∙ ap (λ (x : ℕ). (x + b) % 2 ^ 32) e
+    ∙ mod-add-mod (pair_kw s h i) (2 ^ 32) b
+    ∙ ap (λ (x : ℕ). (pair_kw s h i + x) % 2 ^ 32) f
+    ∙ add-mod-mod (pair_kw s h i) (pair_kw s (h + 1) i) (2 ^ 32)
 
 -- their bits
-counted-fits : (both fits : Bool) (b k : ℕ) → ltb b (2 ^ 25) ≡ fits → k ≡ pick {A = ℕ} both b 0 → ltb k (2 ^ 25) ≡ pick both fits true
-counted-fits true fits b k e f = rw f e
-counted-fits false fits b k e f = rw f refl
-
 pub two-bits-tell :
-    (s : List ℕ) (both : Bool) (h i a b k : ℕ) → ltb a (2 ^ 25) ≡ pair_fits s h i → ltb b (2 ^ 25) ≡ pair_fits s (h + 1) i →
-    k ≡ pick {A = ℕ} both b 0 → ltb (bit_or a k) (2 ^ 25) ≡ two_fit s both h i
-unfolding two_fit
-two-bits-tell s both h i a b k e f g =
-    or-below 25 a k
-    ∙ ap (λ (x : Bool). x && ltb k (2 ^ 25)) e
-    ∙ ap (λ (x : Bool). pair_fits s h i && x) (counted-fits both (pair_fits s (h + 1) i) b k f g)
+    (s : List ℕ) (h i a b : ℕ) → ltb a (2 ^ 25) ≡ pair_fits s h i → ltb b (2 ^ 25) ≡ pair_fits s (h + 1) i
+    → ltb (bit_or a b) (2 ^ 25) ≡ two_fit s h i
+two-bits-tell s h i a b e f =
+    or-below 25 a b
+    ∙ ap (λ (x : Bool). x && ltb b (2 ^ 25)) e
+    ∙ ap (λ (x : Bool). pair_fits s h i && x) f
 
--- the loop over the interties: the first i of n sums have the kW of the two holders, and the bits of their pairs are together
-pub record Summed (s : List ℕ) (n : ℕ) (both : Bool) (h : ℕ) (first : List ℕ) (bits : ℕ) (sums : List ℕ) (i : ℕ) : Type 0 where
-  pub inside : i ≤ n
-  pub fit : ltb bits (2 ^ 25) ≡ all_to i (two_fit s both h)
-  pub held : sums ≡ fill i (summed s both h first) first
+-- kW added to the sums of n interties, in 32 bits
+sums-turn :
+    (sums next : List ℕ) (n : ℕ) (kw before : ℕ → ℕ)
+    → next ≡ fill n (λ i. (at sums i + kw i % 2 ^ 32) % 2 ^ 32) sums
+    → n ≤ length sums
+    → ((i : ℕ) → i < n → at sums i ≡ before i % 2 ^ 32)
+    → (i : ℕ) → i < n → at next i ≡ (before i + kw i) % 2 ^ 32
+sums-turn sums next n kw before e long held i l =
+    ap (λ (k : List ℕ). at k i) e
+    ∙ at_fill n (λ j. (at sums j + kw j % 2 ^ 32) % 2 ^ 32) sums i l long
+    ∙ add-mod-mod (at sums i) (kw i) (2 ^ 32)
+    ∙ ap (λ (x : ℕ). (x + kw i) % 2 ^ 32) (held i l)
+    ∙ mod-add-mod (before i) (2 ^ 32) (kw i)
 
-module _ (s : List ℕ) (n : ℕ) (both : Bool) (h : ℕ) (first : List ℕ) where
-  pub summed-none : Summed s n both h first 0 first 0
-  summed-none = record { inside = zero-le; fit = sym (all_to-zero (two_fit s both h)); held = sym (fill-zero (summed s both h first) first) }
+filled-places : (sums next : List ℕ) (n : ℕ) (f : ℕ → ℕ) → next ≡ fill n f sums → length sums ≡ 48 → length next ≡ 48
+filled-places sums next n f e long = ap (λ (k : List ℕ). length k) e ∙ length-fill n f sums ∙ long
 
-  pub summed-next : (bits b : ℕ) (sums : List ℕ) (i k x : ℕ) → Summed s n both h first bits sums i → i < n →
-      ltb b (2 ^ 25) ≡ two_fit s both h i → k ≡ two_kw s both h i % 2 ^ 32 → x ≡ (at sums i + k) % 2 ^ 32 →
-      Summed s n both h first (bit_or bits b) (set sums i x) (i + 1)
-  unfolding summed
-  summed-next bits b sums i k x t l e f w =
-      let kept : at sums i ≡ at first i = fill-place i (summed s both h first) first sums t.held in
-      record {
-        inside = omega arith;
-        fit = bits-turn i (two_fit s both h) bits b t.fit e;
-        held = fill-turn i (summed s both h first) first sums x t.held (cc);
-      }
+-- the sums of no holder, of one more, of two more, and of as many
+pub added_none : (s sums : List ℕ) → Cleared (interties s) sums → Added s 0 0 sums
+unfolding all_to sum_to
+added_none s sums c = record { places = c.places; fit = refl; held = c.zeros }
 
-  pub summed-all : (bits : ℕ) (sums : List ℕ) (i : ℕ) → Summed s n both h first bits sums i → n ≤ i →
-      (ltb bits (2 ^ 25) ≡ all_to n (two_fit s both h)) × (sums ≡ fill n (summed s both h first) first)
-  summed-all bits sums i t l =
-      (all_done i n (two_fit s both h) (ltb bits (2 ^ 25)) t.fit t.inside l, fill_done i n (summed s both h first) first sums t.held t.inside l)
+added-one :
+    (s sums next : List ℕ) (h bits b : ℕ) → interties s ≤ 48 → Added s h bits sums
+    → ltb b (2 ^ 25) ≡ all_to (interties s) (λ i. pair_fits s h i)
+    → next ≡ fill (interties s) (λ i. (at sums i + pair_kw s h i % 2 ^ 32) % 2 ^ 32) sums
+    → Added s (h + 1) (bit_or bits b) next
+added-one s sums next h bits b most added fits e =
+    record {
+      places = filled-places sums next _ _ e added.places;
+      fit = bits-turn h (λ k. all_to (interties s) (λ i. pair_fits s k i)) bits b added.fit fits;
+      held =
+          λ i l.
+          sums-turn sums next (interties s) (λ j. pair_kw s h j) (λ j. sum_to h (λ k. pair_kw s k j)) e (omega (arith, added.places)) added.held i l
+          ∙ ap (λ (x : ℕ). x % 2 ^ 32) (sym (sum_to-more h (λ k. pair_kw s k i)));
+    }
 
--- what a holder and, where both count, the next bring to a sum and to a test over holders
-two-sum : (both : Bool) (h : ℕ) (f : ℕ → ℕ) → sum_to h f + (f h + pick both (f (h + 1)) 0) ≡ sum_to (pick both (h + 1 + 1) (h + 1)) f
-two-sum true h f = omega (arith, sum_to-more h f, sum_to-more (h + 1) f)
-two-sum false h f = omega (arith, sum_to-more h f)
+pub added-two :
+    (s sums next : List ℕ) (two bits b : ℕ) → interties s ≤ 48 → Added s (2 * two) bits sums
+    → ltb b (2 ^ 25) ≡ all_to (interties s) (λ i. two_fit s (2 * two) i)
+    → next ≡ fill (interties s) (λ i. (at sums i + two_kw s (2 * two) i % 2 ^ 32) % 2 ^ 32) sums
+    → Added s (2 * (two + 1)) (bit_or bits b) next
+added-two s sums next two bits b most added fits e =
+    let h : ℕ = 2 * two in
+    let after : h + 1 + 1 ≡ 2 * (two + 1) = omega arith in
+    let fit_of : ℕ → Bool = λ k. all_to (interties s) (λ i. pair_fits s k i) in
+    let both-fit : ltb b (2 ^ 25) ≡ (fit_of h && fit_of (h + 1)) = fits ∙ all_to-both (interties s) (λ i. pair_fits s h i) (λ i. pair_fits s (h + 1) i) in
+    record {
+      places = filled-places sums next _ _ e added.places;
+      fit =
+          or-below 25 bits b
+          ∙ ap (λ (x : Bool). x && ltb b (2 ^ 25)) added.fit
+          ∙ ap (λ (x : Bool). all_to h fit_of && x) both-fit
+          ∙ sym (and_assoc (all_to h fit_of) (fit_of h) (fit_of (h + 1)))
+          ∙ ap (λ (x : Bool). x && fit_of (h + 1)) (sym (all_to-next h fit_of))
+          ∙ sym (all_to-next (h + 1) fit_of)
+          ∙ ap (λ (x : ℕ). all_to x fit_of) after;
+      held =
+          λ i l.
+          sums-turn sums next (interties s) (λ j. two_kw s h j) (λ j. sum_to h (λ k. pair_kw s k j)) e (omega (arith, added.places)) added.held i l
+          ∙ ap (λ (x : ℕ). x % 2 ^ 32)
+          (omega (arith, sum_to-more h (λ k. pair_kw s k i), sum_to-more (h + 1) (λ k. pair_kw s k i)))
+          ∙ ap (λ (x : ℕ). sum_to x (λ k. pair_kw s k i) % 2 ^ 32) after;
+    }
 
-two-all : (both : Bool) (n h : ℕ) (p : ℕ → ℕ → Bool) →
-    (all_to h (λ k. all_to n (p k)) && all_to n (λ i. p h i && pick both (p (h + 1) i) true)) ≡ all_to (pick both (h + 1 + 1) (h + 1)) (λ k. all_to n (p k))
-two-all true n h p =
-    let q : ℕ → Bool = λ k. all_to n (p k) in
-    ap (λ (b : Bool). all_to h q && b) (all_to-both n (p h) (p (h + 1)))
-    ∙ sym (and_assoc (all_to h q) (q h) (q (h + 1)))
-    ∙ ap (λ (b : Bool). b && q (h + 1)) (sym (all_to-next h q))
-    ∙ sym (all_to-next (h + 1) q)
-two-all false n h p =
-    let q : ℕ → Bool = λ k. all_to n (p k) in
-    ap (λ (b : Bool). all_to h q && b) (all_to-same n (λ i. p h i && true) (p h) (λ i l. and-true (p h i)))
-    ∙ sym (all_to-next h q)
+pub added-same : (s sums : List ℕ) (m n bits : ℕ) → m ≡ n → Added s m bits sums → Added s n bits sums
+added-same s sums m n bits e added = rw e at added
 
--- the loop over the holders: those of the turns that were made are added
-pub record Adding (s : List ℕ) (n m two bits : ℕ) (sums : List ℕ) : Type 0 where
-  pub inside : 2 * two ≤ m + 1
-  pub added : Added s n (min (2 * two) m) bits sums
-
-module _ (s : List ℕ) (n m : ℕ) where
-  pub adding-none : (sums : List ℕ) → Cleared n sums → Adding s n m 0 0 sums
-  unfolding all_to sum_to
-  adding-none sums c =
-      let none : min (2 * 0) m ≡ 0 = omega arith in
-      let added : Added s n 0 0 sums = record { places = c.places; fit = refl; held = c.zeros } in
-      record { inside = zero-le; added = rw none added }
-
-  pub adding-next : (sums next : List ℕ) (two bits b : ℕ) → Adding s n m two bits sums → two < (m + 1) / 2 → n ≤ 48 →
-      ltb b (2 ^ 25) ≡ all_to n (two_fit s (ltb (2 * two + 1) m) (2 * two)) →
-      next ≡ fill n (summed s (ltb (2 * two + 1) m) (2 * two) sums) sums → Adding s n m (two + 1) (bit_or bits b) next
-  unfolding two_fit summed two_kw
-  adding-next sums next two bits b t l most fits e =
-      let h : ℕ = 2 * two in
-      let both : Bool = ltb (h + 1) m in
-      let before : min h m ≡ h = omega arith in
-      let was : Added s n h bits sums = rw before at t.added in
-      let after : pick both (h + 1 + 1) (h + 1) ≡ min (2 * (two + 1)) m =
-      pick-by (λ (k : ℕ). k ≡ min (2 * (two + 1)) m) both (h + 1 + 1) (h + 1) (λ y. omega (arith, ltb-true (h + 1) m y)) (λ y. omega (arith, ltb-false (h + 1) m y)) in
-      record {
-        inside = omega arith;
-        added = record {
-          places = ap (λ (k : List ℕ). length k) e ∙ length-fill n (summed s both h sums) sums ∙ was.places;
-          fit =
-              or-below 25 bits b
-              ∙ ap (λ (x : Bool). x && ltb b (2 ^ 25)) was.fit
-              ∙ ap (λ (x : Bool). all_to h (λ k. all_to n (λ i. pair_fits s k i)) && x) fits
-              ∙ two-all both n h (pair_fits s)
-              ∙ ap (λ (k : ℕ). all_to k (λ j. all_to n (λ i. pair_fits s j i))) after;
-          held = λ i j.
-              ap (λ (k : List ℕ). at k i) e
-              ∙ at_fill n (summed s both h sums) sums i j (omega (arith, was.places))
-              ∙ add-mod-mod (at sums i) (two_kw s both h i) (2 ^ 32)
-              ∙ ap (λ (x : ℕ). (x + two_kw s both h i) % 2 ^ 32) (was.held i j)
-              ∙ mod-add-mod (sum_to h (λ k. pair_kw s k i)) (2 ^ 32) (two_kw s both h i)
-              ∙ ap (λ (x : ℕ). x % 2 ^ 32) (two-sum both h (λ k. pair_kw s k i) ∙ ap (λ (k : ℕ). sum_to k (λ j. pair_kw s j i)) after);
-        };
-      }
-
-  pub adding-all : (sums : List ℕ) (two bits : ℕ) → Adding s n m two bits sums → (m + 1) / 2 ≤ two → Added s n m bits sums
-  adding-all sums two bits t l =
-      let all : min (2 * two) m ≡ m = omega arith in
-      rw all at t.added
+-- the last holder
+pub added-last :
+    (s sums next : List ℕ) (m h bits b : ℕ) → interties s ≤ 48 → m ≡ h → h + 1 ≡ holders s → Added s m bits sums
+    → ltb b (2 ^ 25) ≡ all_to (interties s) (λ i. pair_fits s h i)
+    → next ≡ fill (interties s) (λ i. (at sums i + pair_kw s h i % 2 ^ 32) % 2 ^ 32) sums
+    → Added s (holders s) (bit_or bits b) next
+added-last s sums next m h bits b most e last added fits filled =
+    added-same s next (h + 1) (holders s) (bit_or bits b) last
+    (added-one s sums next h bits b most (added-same s sums m h bits e added) fits filled)
 
 -- the sum of pairs that fit passes no 32 bits
 sum_fits : (s : List ℕ) (m i : ℕ) → m ≤ 32 → ((h : ℕ) → h < m → pair_kw s h i < 2 ^ 25) → sum_to m (λ h. pair_kw s h i) % 2 ^ 32 ≡ sum_to m (λ h. pair_kw s h i)
@@ -270,26 +241,19 @@ fits-tell :
 fits-tell s sums most held fits =
     balanced-is s sums (λ i l. held i l ∙ sum_fits s (holders s) i most (λ h k. ltb-true (pair_kw s h i) (2 ^ 25) (fits h i k l)))
 
--- sums before any holder
-pub zeros-cleared : (n : ℕ) → n ≤ 48 → Cleared n (replicate 48 0)
-zeros-cleared n most = record { places = length-replicate {A = ℕ} 48 0; zeros = λ i l. get_or-replicate 48 i 0 0 (omega arith) }
-
 -- limits in range and met, from the three tests of them
 pub limits-balance-is :
-    (s sums : List ℕ) (n m bits : ℕ) → Sized s n m → {range met : Bool}
-    → range ≡ all_to n (word_within s 1 20000000)
-    → Added s n m bits sums
-    → met ≡ all_to n (λ i. limit_met s i (at sums i))
+    (s sums : List ℕ) (n bits : ℕ) → n ≡ interties s → holders s ≤ 32 → {range met : Bool}
+    → range ≡ all_to n (λ i. leb (limit_of s i) 20000000)
+    → Added s (holders s) bits sums
+    → met ≡ all_to (interties s) (λ i. limit_met s i (at sums i))
     → (range && ltb bits (2 ^ 25) && met) ≡ (limits_in_range s && balanced s)
-unfolding limits_in_range word_within
-limits-balance-is s sums n m bits sized {range} {met} tested with-bits met-is =
-    let added : Added s (interties s) (holders s) bits sums = rw (← sized.interties-are, ← sized.holders-are) with-bits in
-    let c : met ≡ all_to (interties s) (λ i. limit_met s i (at sums i)) = rw sized.interties-are at met-is in
-    let most : holders s ≤ 32 = rw (← sized.holders-are) sized.holders-most in
+unfolding limits_in_range
+limits-balance-is s sums n bits count most {range} {met} tested added c =
     let small : Bool = ltb bits (2 ^ 25) in
     let b = added.fit in
     let held = added.held in
-    let a : range ≡ all_to (interties s) (λ i. leb (limit_of s i) 20000000) = rw sized.interties-are at tested in
+    let a : range ≡ all_to (interties s) (λ i. leb (limit_of s i) 20000000) = rw count at tested in
     same_test (range && small && met) (limits_in_range s && balanced s)
     (λ (e : (range && small && met) ≡ true).
     let two : (range && small) ≡ true = and_left (range && small) met e in

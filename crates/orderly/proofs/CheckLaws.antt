@@ -1,17 +1,18 @@
 -- Why the parts of the check, put together, say what "Orderly" says.
-use Rattle.std.proofs.Common.{◌≡◌, ℕ, zero, suc, ◌+◌, ◌-◌, ◌*◌, ◌/◌, ◌^◌, ◌≤◌, Bool, true, false, ◌&&◌, eqb, ltb, leb, List, length, sym, refl, ap, ◌∙◌, arith, lt_of_le_ones, ltb-true, lt-ltb, le-leb, leb-true}
+use Rattle.std.proofs.Common.{◌≡◌, ℕ, zero, suc, ◌+◌, ◌-◌, ◌*◌, ◌/◌, ◌^◌, ◌≤◌, Bool, true, false, ◌&&◌, ◌||◌, eqb, ltb, leb, List, length, sym, refl, ap, ◌∙◌, arith, lt_of_le_ones, ltb-true, lt-ltb, le-leb, leb-true}
 use mathlib.Core.Bool.{beq, and_assoc, and_comm, and-false, and-true}
+use lib.Bits.{bit_or}
 use lib.Dec.{leb-zero, leb-suc-zero, eqb-suc-zero}
 use lib.Pow.{ones_split, ones_lt, le_ones, high}
 use Rattle.base.specs.Choice.{pick}
 use Rattle.base.specs.Sums.{sum_to, all_to}
 use Rattle.base.proofs.ChoiceLaws.{and_both, same_test, and_left, and_right, and-left-comm, four}
-use Rattle.base.proofs.SumLaws.{all_to-each, all_to-all, all_to-same, all_to-both, all_to-pairs-both}
+use Rattle.base.proofs.SumLaws.{all_to-each, all_to-all, all_to-same, all_to-both, all_to-pairs-both, all_more}
 use Rattle.base.specs.Limits.{state_words}
-use Rattle.base.proofs.TestLaws.{fault}
-use Rattle.state.specs.Layout.{interties, holders, unplaced_of, sellers_of, placed_of, locked_of, term_of, pending_of, of_holder, stage_of}
+use Rattle.base.proofs.TestLaws.{fault, or-none}
+use Rattle.state.specs.Layout.{interties, holders, load_share_of, step5_share_of, step7_total_of, reserved_of, unplaced_of, sellers_of, takings_of, placed_of, locked_of, term_of, pending_of, of_holder, stage_of}
 use Rattle.state.specs.Orderly.{orderly, sizes_in_range, stage_in_range, limits_in_range, load_shares_in_range, balanced, locked_within_placed, pending_within_unplaced, kw_in_range, takings_in_range, sellers_are_holders, terms_fit, term_fits, no_requests}
-use Rattle.orderly.specs.Workers.Check.{OfHolders, Sized, in_range, word_within, both_clear, fields_in_range, rows_in_order, holder_in_order, lock_fits, pair_lock_fits, most_pending}
+use Rattle.orderly.specs.Workers.Check.{Sized, fields_in_range, rows_in_order, lock_fits, pair_lock_fits, unlocked, most_pending}
 
 -- a term at most 30, and 0 exactly where nothing is locked
 term-test : (locked term : ℕ) → (leb term 30 && beq (eqb locked 0) (eqb term 0)) ≡ term_fits locked term
@@ -42,16 +43,34 @@ pub pair-fault-is :
     (s : List ℕ) (h i : ℕ) {placed locked term f : ℕ}
     → placed ≡ placed_of s h i → locked ≡ locked_of s h i → term ≡ term_of s h i
     → f ≡ fault (lock_fits placed locked term) → f ≡ fault (pair_lock_fits s h i)
-unfolding pair_lock_fits
 pair-fault-is s h i {placed} {locked} {term} {f} p l t e = cc
 
+-- sizes and stage, from the words that were read
+pub sizes-are :
+    (s : List ℕ) {n m stage : ℕ}
+    → n ≡ interties s → m ≡ holders s → stage ≡ stage_of s
+    → (leb 1 n && leb n 48 && leb 1 m && leb m 32 && (leb 1 stage && leb stage 4)) ≡ (sizes_in_range s && stage_in_range s)
+unfolding sizes_in_range stage_in_range
+sizes-are s {n} {m} {stage} a b c = cc
+
 -- locked and terms of every pair together
-locks-are : (s : List ℕ) → all_to (holders s) (λ h. all_to (interties s) (pair_lock_fits s h)) ≡ (locked_within_placed s && terms_fit s)
-unfolding locked_within_placed terms_fit pair_lock_fits
+pub locks-are : (s : List ℕ) → all_to (holders s) (λ h. all_to (interties s) (λ i. pair_lock_fits s h i)) ≡ (locked_within_placed s && terms_fit s)
+unfolding locked_within_placed terms_fit
 locks-are s =
     all_to-pairs-both (holders s) (interties s)
     (λ h i. leb (locked_of s h i) (placed_of s h i))
     (λ h i. term_fits (locked_of s h i) (term_of s h i))
+
+-- a loop that puts the bits of locked kW and terms together: a turn
+pub unlocked-turn :
+    (s : List ℕ) (h i bits locked term : ℕ)
+    → eqb bits 0 ≡ all_to i (λ j. unlocked s h j) → locked ≡ locked_of s h i → term ≡ term_of s h i
+    → eqb (bit_or (bit_or bits locked) term) 0 ≡ all_to (i + 1) (λ j. unlocked s h j)
+unlocked-turn s h i bits locked term e l t =
+    or-none (bit_or bits locked) term
+    ∙ ap (λ (b : Bool). b && leb term 0) (or-none bits locked)
+    ∙ and_assoc (eqb bits 0) (leb locked 0) (leb term 0)
+    ∙ all_more i (λ j. unlocked s h j) (eqb bits 0) (leb locked 0 && leb term 0) e (cc)
 
 -- a holder without a lock has its locks in order
 unlocked-fits : (placed locked term : ℕ) → locked ≤ 0 → term ≤ 0 → lock_fits placed locked term ≡ true
@@ -60,11 +79,11 @@ unlocked-fits placed zero (suc t) l h = absurd (omega arith)
 unlocked-fits placed (suc k) t l h = absurd (omega arith)
 
 pub no-lock-fits :
-    (s : List ℕ) (n h : ℕ) {b : Bool} → b ≡ all_to n (both_clear s (173 + h) (205 + h)) → b ≡ true → true ≡ all_to n (pair_lock_fits s h)
-unfolding both_clear pair_lock_fits
-no-lock-fits s n h e t =
-    sym (all_to-all n (pair_lock_fits s h) (λ i l.
-    let none : both_clear s (173 + h) (205 + h) i ≡ true = all_to-each n (both_clear s (173 + h) (205 + h)) (sym e ∙ t) i l in
+    (s : List ℕ) (h : ℕ) {b : Bool} → b ≡ all_to (interties s) (λ i. unlocked s h i) → b ≡ true
+    → true ≡ all_to (interties s) (λ i. pair_lock_fits s h i)
+no-lock-fits s h e t =
+    sym (all_to-all (interties s) (λ i. pair_lock_fits s h i) (λ i l.
+    let none : unlocked s h i ≡ true = all_to-each (interties s) (λ j. unlocked s h j) (sym e ∙ t) i l in
     unlocked-fits (placed_of s h i) (locked_of s h i) (term_of s h i)
     (leb-true (locked_of s h i) 0 (and_left (leb (locked_of s h i) 0) (leb (term_of s h i) 0) none))
     (leb-true (term_of s h i) 0 (and_right (leb (locked_of s h i) 0) (leb (term_of s h i) 0) none))))
@@ -81,17 +100,10 @@ unfolding all_to sum_to
 zero-sum zero f = sym (leb-zero 0)
 zero-sum (suc n) f = ap (λ (b : Bool). b && leb (f n) 0) (zero-sum n f) ∙ sym (zero-both (sum_to n f) (f n))
 
-and_same : (b : Bool) → (b && b) ≡ b
-and_same true = refl
-and_same false = refl
-
 -- pending that may only be 0, from the words one by one
-pub none-pending : (s : List ℕ) (n stage h : ℕ) {most : ℕ} {b : Bool} → most ≡ most_pending s stage h → most ≡ 0
-    → b ≡ all_to n (both_clear s (237 + h) (237 + h)) → b ≡ leb (sum_to n (pending_of s h)) (most_pending s stage h)
-unfolding both_clear
-none-pending s n stage h m z e =
-    e ∙ all_to-same n (both_clear s (237 + h) (237 + h)) (λ i. leb (pending_of s h i) 0) (λ i l. and_same (leb (pending_of s h i) 0))
-    ∙ zero-sum n (pending_of s h) ∙ ap (leb (sum_to n (pending_of s h))) (sym z ∙ m)
+pub none-pending : (s : List ℕ) (h : ℕ) {most : ℕ} {b : Bool} → most ≡ most_pending s h → most ≡ 0
+    → b ≡ all_to (interties s) (λ i. leb (pending_of s h i) 0) → b ≡ leb (of_holder pending_of s h) (most_pending s h)
+none-pending s h m z e = e ∙ zero-sum (interties s) (λ i. pending_of s h i) ∙ ap (leb (of_holder pending_of s h)) (sym z ∙ m)
 
 -- nothing is at most 0, and within any bound
 zero_test : (kw most : ℕ) → leb kw 0 ≡ (leb kw most && eqb kw 0)
@@ -108,17 +120,16 @@ pending-test n true kw most =
     all_to-same n (λ h. leb (kw h) 0) (λ h. leb (kw h) (most h) && eqb (kw h) 0) (λ h l. zero_test (kw h) (most h))
     ∙ all_to-both n (λ h. leb (kw h) (most h)) (λ h. eqb (kw h) 0)
 
-pub pending-is : (s : List ℕ) → all_to (holders s) (λ h. leb (of_holder pending_of s h) (most_pending s (stage_of s) h)) ≡ pending_within_unplaced s
+pub pending-is : (s : List ℕ) → all_to (holders s) (λ h. leb (of_holder pending_of s h) (most_pending s h)) ≡ pending_within_unplaced s
 unfolding pending_within_unplaced
 pending-is s = pending-test (holders s) (no_requests s) (λ h. of_holder pending_of s h) (λ h. unplaced_of s h)
 
--- the locks and the pending kW of all holders
-holders-are : (s : List ℕ) → all_to (holders s) (holder_in_order s (interties s) (stage_of s)) ≡ ((locked_within_placed s && terms_fit s) && pending_within_unplaced s)
-unfolding holder_in_order
-holders-are s =
-    all_to-both (holders s) (λ h. all_to (interties s) (pair_lock_fits s h)) (λ h. leb (of_holder pending_of s h) (most_pending s (stage_of s) h))
-    ∙ ap (λ (b : Bool). b && all_to (holders s) (λ h. leb (of_holder pending_of s h) (most_pending s (stage_of s) h))) (locks-are s)
-    ∙ ap (λ (b : Bool). (locked_within_placed s && terms_fit s) && b) (pending-is s)
+-- the most pending, from the stage that was read
+pub most-none : (s : List ℕ) (h : ℕ) {stage : ℕ} → stage ≡ stage_of s → (eqb stage 1 || eqb stage 4) ≡ true → 0 ≡ most_pending s h
+most-none s h e t = rw (← e, t)
+
+pub most-unplaced : (s : List ℕ) (h : ℕ) {stage kw : ℕ} → stage ≡ stage_of s → (eqb stage 1 || eqb stage 4) ≡ false → kw ≡ unplaced_of s h → kw ≡ most_pending s h
+most-unplaced s h e t k = rw (← e, t) k
 
 -- the largest mask of n bits, by a shift
 mask-ones : (n : ℕ) → n ≤ 32 → 4294967295 / 2 ^ (32 - n) ≡ 2 ^ n - 1
@@ -143,62 +154,53 @@ sellers-are s h =
 
 -- the fields in the order in which they are tested
 pub fields-are :
-    (s : List ℕ) (m : ℕ) → OfHolders s m
+    (s : List ℕ) (m : ℕ) → m ≡ holders s → m ≤ 32
     → {shares step5 step7 reserved takings sellers : Bool} {unplaced : ℕ}
-    → shares ≡ all_to m (word_within s 3 100000000)
+    → shares ≡ all_to m (λ h. leb (load_share_of s h) 100000000)
     → unplaced ≡ sum_to m (λ h. unplaced_of s h)
-    → step5 ≡ all_to m (word_within s 4 960000000)
-    → step7 ≡ all_to m (word_within s 5 960000000)
-    → reserved ≡ all_to m (word_within s 6 960000000)
-    → takings ≡ all_to m (word_within s 108 2)
-    → sellers ≡ all_to m (word_within s 106 (4294967295 / 2 ^ (32 - m)))
+    → step5 ≡ all_to m (λ h. leb (step5_share_of s h) 960000000)
+    → step7 ≡ all_to m (λ h. leb (step7_total_of s h) 960000000)
+    → reserved ≡ all_to m (λ h. leb (reserved_of s h) 960000000)
+    → takings ≡ all_to m (λ h. leb (takings_of s h) 2)
+    → sellers ≡ all_to m (λ h. leb (sellers_of s h) (4294967295 / 2 ^ (32 - m)))
     → (shares && leb unplaced 960000000 && step5 && step7 && reserved && takings && sellers) ≡ fields_in_range s
-unfolding word_within load_shares_in_range kw_in_range takings_in_range
-fields-are s m o {shares} {step5} {step7} {reserved} {takings} {sellers} {unplaced} e2 e3 e4 e5 e6 e7 e8 =
-    let em = o.holders-are in
-    let mask : all_to m (word_within s 106 (4294967295 / 2 ^ (32 - m))) ≡ sellers_are_holders s = rw em (sellers-are s (rw em at o.holders-most)) in
+unfolding load_shares_in_range kw_in_range takings_in_range
+fields-are s m em most {shares} {step5} {step7} {reserved} {takings} {sellers} {unplaced} e2 e3 e4 e5 e6 e7 e8 =
+    let mask : all_to m (λ h. leb (sellers_of s h) (4294967295 / 2 ^ (32 - m))) ≡ sellers_are_holders s = rw em (sellers-are s (rw em at most)) in
     rw (e2, e3, e4, e5, e6, e7, e8, mask, em) (simp and_assoc)
 
--- the parts together
+-- sizes in range, and a state that is long enough for them
+pub sized : (s : List ℕ) → state_words ≤ length s → (sizes_in_range s && stage_in_range s) ≡ true → Sized s
+unfolding sizes_in_range
+sized s long e =
+    let n = interties s in
+    let m = holders s in
+    let sizes = four (leb 1 n) (leb n 48) (leb 1 m) (leb m 32) (and_left (sizes_in_range s) (stage_in_range s) e) in
+    record {
+      long = long;
+      interties-most = leb-true n 48 sizes.1;
+      holders-least = leb-true 1 m sizes.2;
+      holders-most = leb-true m 32 sizes.3;
+    }
+
+-- the parts in the order in which they are tested
 regroup :
     (sizes limits shares balance locked pending kw takings sellers terms : Bool)
-    → sizes ≡ true → (shares && kw && takings && sellers && (limits && balance) && ((locked && terms) && pending))
+    → sizes ≡ true → (shares && kw && takings && sellers && (limits && balance) && (locked && terms) && pending)
     ≡ (sizes && limits && shares && balance && locked && pending && kw && takings && sellers && terms)
 regroup z l o b k p w t s m e = rw e (simp (and_assoc, and_comm, and-left-comm))
 
--- a state's own sizes and stage, as they were read and tested
-module _ (s : List ℕ) (n m stage : ℕ) (tested : Bool) (a : n ≡ interties s) (b : m ≡ holders s) (c : stage ≡ stage_of s) (t : tested ≡ in_range n m stage) where
-  sizes-are : tested ≡ (sizes_in_range s && stage_in_range s)
-  unfolding sizes_in_range stage_in_range
-  sizes-are = cc
+pub orderly-is : (s : List ℕ) → (sizes_in_range s && stage_in_range s) ≡ true → rows_in_order s ≡ orderly s
+unfolding orderly
+orderly-is s e =
+    regroup (sizes_in_range s && stage_in_range s) (limits_in_range s) (load_shares_in_range s) (balanced s) (locked_within_placed s)
+    (pending_within_unplaced s) (kw_in_range s) (takings_in_range s) (sellers_are_holders s) (terms_fit s) e
 
-  -- in range, and a state that is long enough for them
-  pub sized : state_words ≤ length s → tested ≡ true → Sized s n m
-  sized long e =
-      let sizes = four (leb 1 n) (leb n 48) (leb 1 m) (leb m 32) (and_left (leb 1 n && leb n 48 && leb 1 m && leb m 32) (leb 1 stage && leb stage 4) (sym t ∙ e)) in
-      record {
-        long = long;
-        interties-are = a;
-        interties-most = leb-true n 48 sizes.1;
-        holders-are = b;
-        holders-least = leb-true 1 m sizes.2;
-        holders-most = leb-true m 32 sizes.3;
-      }
-
-  -- the parts in the order in which they are tested
-  pub orderly-is : (r : Bool) → tested ≡ true → r ≡ rows_in_order s n m stage → r ≡ orderly s
-  unfolding orderly
-  orderly-is r e f =
-      let own : r ≡ rows_in_order s (interties s) (holders s) (stage_of s) = rw (a, b, c) at f in
-      own ∙ ap (λ (r : Bool). fields_in_range s && (limits_in_range s && balanced s) && r) (holders-are s)
-      ∙ regroup (sizes_in_range s && stage_in_range s) (limits_in_range s) (load_shares_in_range s) (balanced s) (locked_within_placed s)
-      (pending_within_unplaced s) (kw_in_range s) (takings_in_range s) (sellers_are_holders s) (terms_fit s) (sym sizes-are ∙ e)
-
-  pub not-orderly : tested ≡ false → false ≡ orderly s
-  unfolding orderly
-  not-orderly e =
-      ap
-      (λ (z : Bool).
-      z && limits_in_range s && load_shares_in_range s && balanced s && locked_within_placed s
-      && pending_within_unplaced s && kw_in_range s && takings_in_range s && sellers_are_holders s && terms_fit s)
-      (sym e ∙ sizes-are)
+pub not-orderly : (s : List ℕ) → (sizes_in_range s && stage_in_range s) ≡ false → orderly s ≡ false
+unfolding orderly
+not-orderly s e =
+    ap
+    (λ (z : Bool).
+    z && limits_in_range s && load_shares_in_range s && balanced s && locked_within_placed s
+    && pending_within_unplaced s && kw_in_range s && takings_in_range s && sellers_are_holders s && terms_fit s)
+    e

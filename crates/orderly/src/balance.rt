@@ -1,12 +1,12 @@
 // The limits, and the balance on each intertie, added in 32 bits. A limit is below 2^25, and so are
 // the kW of each pair that stand against it; where they are, their sums don't pass 32 bits.
-ghost use Rattle.std.specs.Prelude.{◌≡◌, ℕ, ◌+◌, ◌%◌, ◌^◌, ◌<◌, ◌≤◌, ◌&&◌, length, nat_lt};
-ghost use Rattle.base.specs.Choice.{pick};
+ghost use Rattle.std.specs.Prelude.{◌≡◌, ℕ, ◌+◌, ◌*◌, ◌/◌, ◌%◌, ◌^◌, ◌<◌, ◌≤◌, ◌&&◌, length, nat_lt};
 ghost use Rattle.base.specs.Sums.{all_to};
 ghost use Rattle.base.specs.Words.{at, fill};
 ghost use Rattle.base.specs.Limits.{state_words, most_holders, most_interties};
+ghost use Rattle.state.specs.Layout.{interties, holders};
 ghost use Rattle.state.specs.Orderly.{limits_in_range, balanced};
-ghost use Rattle.orderly.specs.Workers.Check.{Sized, too_many_kw, pair_kw, pair_fits, two_kw, two_fit, summed, Cleared, Added, limit_met};
+ghost use Rattle.orderly.specs.Workers.Check.{Sized, too_many_kw, pair_kw, pair_fits, two_kw, two_fit, Cleared, Added, limit_met};
 
 use super::rows::{row_within, row_word};
 use base::limits;
@@ -46,73 +46,79 @@ fn pair_bits(state: &[u32], holder: u32, intertie: usize) -> u32
     existing | pre_ra | new_use | placed | taken | pair_kw(state, holder, intertie)
 }
 
-// A number where it counts, else 0.
-fn counted(counts: bool, number: u32) -> u32
-    ensures { result ≡ pick {A = ℕ} counts number 0 }
+// Adds the kW of a holder to the sums of the interties. The result has the bits of its pairs.
+fn add_holder(state: &[u32], holder: u32, sums: &mut [u32; MOST_INTERTIES]) -> u32
+    requires { Sized state.now × (holder < most_holders) }
+    ensures { let s = state.now in let before = sums.old in
+        (nat_lt result too_many_kw ≡ all_to (interties s) (λ (i : ℕ). pair_fits s holder i))
+        × (sums.new ≡ fill (interties s) (λ (i : ℕ). (at before i + pair_kw s holder i % 2 ^ 32) % 2 ^ 32) before) }
 {
-    if counts {
-        return number;
+    let mut bits: u32 = 0;
+    for intertie in 0..state::intertie_count(state) as usize {
+        bits = bits | pair_bits(state, holder, intertie);
+        sums[intertie] = wrapping_add_u32(sums[intertie], pair_kw(state, holder, intertie));
     }
-    0
+    bits
 }
 
-// The kW of a holder's pair and, where both count, of the next holder's, in 32 bits.
-fn two_kw(state: &[u32], holder: u32, both: bool, intertie: usize) -> u32
+// The kW of the pairs of a holder and the next on an intertie, in 32 bits.
+fn two_kw(state: &[u32], holder: u32, intertie: usize) -> u32
     requires { (state_words ≤ length state.now) × (holder + 1 < most_holders) × (intertie < most_interties) }
-    ensures { result ≡ two_kw state.now both holder intertie % 2 ^ 32 }
+    ensures { result ≡ two_kw state.now holder intertie % 2 ^ 32 }
 {
     wrapping_add_u32(
         pair_kw(state, holder, intertie),
-        counted(both, pair_kw(state, holder + 1, intertie)),
+        pair_kw(state, holder + 1, intertie),
     )
 }
 
 // The bits of these pairs.
-fn two_bits(state: &[u32], holder: u32, both: bool, intertie: usize) -> u32
+fn two_bits(state: &[u32], holder: u32, intertie: usize) -> u32
     requires { (state_words ≤ length state.now) × (holder + 1 < most_holders) × (intertie < most_interties) }
-    ensures { nat_lt result too_many_kw ≡ two_fit state.now both holder intertie }
+    ensures { nat_lt result too_many_kw ≡ two_fit state.now holder intertie }
 {
-    pair_bits(state, holder, intertie) | counted(both, pair_bits(state, holder + 1, intertie))
+    pair_bits(state, holder, intertie) | pair_bits(state, holder + 1, intertie)
 }
 
-// Adds the kW of a holder and, where both count, of the next to the sums of the interties, which is quicker than one
-// after the other. The result has the bits of their pairs.
-fn add_two(
-    state: &[u32],
-    interties: usize,
-    holder: u32,
-    both: bool,
-    sums: &mut [u32; MOST_INTERTIES],
-) -> u32
-    requires { (state_words ≤ length state.now) × (interties ≤ most_interties) × (holder + 1 < most_holders) }
+// Adds the kW of a holder and the next, which is quicker than one after the other.
+fn add_two(state: &[u32], holder: u32, sums: &mut [u32; MOST_INTERTIES]) -> u32
+    requires { Sized state.now × (holder + 1 < most_holders) }
     ensures { let s = state.now in let before = sums.old in
-        (nat_lt result too_many_kw ≡ all_to interties (two_fit s both holder))
-        × (sums.new ≡ fill interties (summed s both holder before) before) }
+        (nat_lt result too_many_kw ≡ all_to (interties s) (λ (i : ℕ). two_fit s holder i))
+        × (sums.new ≡ fill (interties s) (λ (i : ℕ). (at before i + two_kw s holder i % 2 ^ 32) % 2 ^ 32) before) }
 {
     let mut bits: u32 = 0;
-    for intertie in 0..interties {
-        bits = bits | two_bits(state, holder, both, intertie);
-        sums[intertie] = wrapping_add_u32(sums[intertie], two_kw(state, holder, both, intertie));
+    for intertie in 0..state::intertie_count(state) as usize {
+        bits = bits | two_bits(state, holder, intertie);
+        sums[intertie] = wrapping_add_u32(sums[intertie], two_kw(state, holder, intertie));
     }
     bits
 }
 
-// The kW of all holders on each intertie, two holders in a turn, added to sums of 0. The result has the bits of their pairs.
-fn add_holders(
-    state: &[u32],
-    interties: usize,
-    holders: u32,
-    sums: &mut [u32; MOST_INTERTIES],
-) -> u32
-    requires { (state_words ≤ length state.now) × (interties ≤ most_interties) × (holders ≤ most_holders)
-        × Cleared interties sums.old }
-    ensures { Added state.now interties holders result sums.new }
+// The kW of each intertie, two holders after two, added to sums of 0. The result has the bits of
+// their pairs.
+fn add_by_two(state: &[u32], sums: &mut [u32; MOST_INTERTIES]) -> u32
+    requires { Sized state.now × Cleared (interties state.now) sums.old }
+    ensures { let s = state.now in Added s (2 * (holders s / 2)) result sums.new }
 {
     let mut bits: u32 = 0;
-    for two in 0..(holders + 1) / 2 {
-        bits = bits | add_two(state, interties, 2 * two, 2 * two + 1 < holders, sums);
+    for two in 0..state::holder_count(state) / 2 {
+        bits = bits | add_two(state, 2 * two, sums);
     }
     bits
+}
+
+// The same, of all holders.
+fn add_holders(state: &[u32], sums: &mut [u32; MOST_INTERTIES]) -> u32
+    requires { Sized state.now × Cleared (interties state.now) sums.old }
+    ensures { let s = state.now in Added s (holders s) result sums.new }
+{
+    let holders = state::holder_count(state);
+    let bits = add_by_two(state, sums);
+    if holders % 2 == 0 {
+        return bits;
+    }
+    bits | add_holder(state, holders - 1, sums)
 }
 
 // Whether an intertie's limit is its outside rights, what its pairs have, and its unassigned kW.
@@ -127,25 +133,26 @@ fn limit_met(state: &[u32], intertie: usize, kw: u32) -> bool
 }
 
 // Whether every limit is met by the sums of the pairs.
-fn limits_met(state: &[u32], interties: usize, sums: &[u32; MOST_INTERTIES]) -> bool
-    requires { (state_words ≤ length state.now) × (interties ≤ most_interties) }
-    ensures { result ≡ all_to interties (λ (i : ℕ). limit_met state.now i (at sums.now i)) }
+fn limits_met(state: &[u32], sums: &[u32; MOST_INTERTIES]) -> bool
+    requires { Sized state.now }
+    ensures { let s = state.now in result ≡ all_to (interties s) (λ (i : ℕ). limit_met s i (at sums.now i)) }
 {
     let mut met = true;
-    for intertie in 0..interties {
+    for intertie in 0..state::intertie_count(state) as usize {
         met = met & limit_met(state, intertie, sums[intertie]);
     }
     met
 }
 
 // Limits in range, and the balance on each intertie.
-pub(super) fn limits_balance(state: &[u32], interties: usize, holders: u32) -> bool
-    requires { Sized state.now interties holders }
+pub(super) fn limits_balance(state: &[u32]) -> bool
+    requires { Sized state.now }
     ensures { let s = state.now in result ≡ (limits_in_range s && balanced s) }
 {
     let mut sums = [0u32; MOST_INTERTIES];
-    let bits = add_holders(state, interties, holders, &mut sums);
+    let bits = add_holders(state, &mut sums);
+    let interties = state::intertie_count(state) as usize;
     row_within(state, layout::LIMIT, interties, MOST_KW)
         & (bits < TOO_MANY_KW)
-        & limits_met(state, interties, &sums)
+        & limits_met(state, &sums)
 }

@@ -1,6 +1,7 @@
 // The sizes, the stage, and the fields of the holders.
-ghost use Rattle.std.specs.Prelude.{◌≡◌};
-ghost use Rattle.orderly.specs.Workers.Check.{OfHolders, in_range, fields_in_range};
+ghost use Rattle.std.specs.Prelude.{◌≡◌, ◌&&◌};
+ghost use Rattle.state.specs.Orderly.{sizes_in_range, stage_in_range};
+ghost use Rattle.orderly.specs.Workers.Check.{Sized, fields_in_range};
 
 use super::rows::{row_sum, row_within};
 use base::{limits, stages};
@@ -15,9 +16,12 @@ const MOST_LOAD_SHARE: u32 = limits::MOST_LOAD_SHARE as u32;
 const MOST_TOTAL_KW: u32 = limits::MOST_TOTAL_KW as u32;
 
 // Sizes and stage.
-pub(super) fn sizes_in_range(interties: u32, holders: u32, stage: u32) -> bool
-    ensures { result ≡ in_range interties holders stage }
+pub(super) fn sizes_in_range(state: &[u32]) -> bool
+    ensures { let s = state.now in result ≡ (sizes_in_range s && stage_in_range s) }
 {
+    let interties = state::intertie_count(state);
+    let holders = state::holder_count(state);
+    let stage = state::stage(state);
     let sizes = (1 <= interties)
         & (interties <= MOST_INTERTIES)
         & (1 <= holders)
@@ -26,10 +30,11 @@ pub(super) fn sizes_in_range(interties: u32, holders: u32, stage: u32) -> bool
 }
 
 // The fields of the holders.
-pub(super) fn fields_in_range(state: &[u32], holders: usize) -> bool
-    requires { OfHolders state.now holders }
+pub(super) fn fields_in_range(state: &[u32]) -> bool
+    requires { Sized state.now }
     ensures { result ≡ fields_in_range state.now }
 {
+    let holders = state::holder_count(state) as usize;
     let most_sellers: u32 = 0xffff_ffff >> (limits::MOST_HOLDERS - holders);
     row_within(state, layout::LOAD_SHARE, holders, MOST_LOAD_SHARE)
         & (row_sum(state, layout::UNPLACED, holders) <= limits::MOST_TOTAL_KW)

@@ -1,5 +1,7 @@
 // Whether a state is orderly (docs/RULES.md, "The year's state"), which every call of the year asks first. Apart from state,
 // which says what orderly is, for the prover's time.
+#![tactic(auto)]
+
 mod balance;
 mod fields;
 mod locks;
@@ -7,10 +9,9 @@ mod pending;
 mod rows;
 
 ghost use Rattle.std.specs.Prelude.{◌≡◌, ◌≤◌, length};
-ghost use Rattle.base.specs.Sums.{all_to};
 ghost use Rattle.base.specs.Limits.{state_words};
 ghost use Rattle.state.specs.Orderly.{orderly, state_refusal};
-ghost use Rattle.orderly.specs.Workers.Check.{Sized, holder_in_order, rows_in_order};
+ghost use Rattle.orderly.specs.Workers.Check.{Sized, rows_in_order};
 
 use base::limits::STATE_WORDS;
 use base::refusals;
@@ -29,40 +30,24 @@ pub fn state_refusal(state: &[u32]) -> u32
     refusals::NOT_ORDERLY
 }
 
-// Whether a state of 16,000 words is orderly. Its sizes and its stage are read here, once.
+// Whether a state of 16,000 words is orderly.
 fn is_orderly(state: &[u32]) -> bool
     requires { state_words ≤ length state.now }
     ensures { result ≡ orderly state.now }
 {
-    let interties = state::intertie_count(state);
-    let holders = state::holder_count(state);
-    let stage = state::stage(state);
-    if fields::sizes_in_range(interties, holders, stage) {
-        return rows_in_order(state, interties as usize, holders, stage);
+    if fields::sizes_in_range(state) {
+        return rows_in_order(state);
     }
     false
 }
 
 // All but the sizes and the stage.
-fn rows_in_order(state: &[u32], interties: usize, holders: u32, stage: u32) -> bool
-    requires { Sized state.now interties holders }
-    ensures { result ≡ rows_in_order state.now interties holders stage }
+fn rows_in_order(state: &[u32]) -> bool
+    requires { Sized state.now }
+    ensures { result ≡ rows_in_order state.now }
 {
-    fields::fields_in_range(state, holders as usize)
-        & balance::limits_balance(state, interties, holders)
-        & holders_in_order(state, interties, holders, stage)
-}
-
-// Whether the locks and the pending kW of all holders are in order.
-fn holders_in_order(state: &[u32], interties: usize, holders: u32, stage: u32) -> bool
-    requires { Sized state.now interties holders }
-    ensures { result ≡ all_to holders (holder_in_order state.now interties stage) }
-{
-    let mut in_order = true;
-    for holder in 0..holders {
-        in_order = in_order
-            & (locks::holder_locks_in_order(state, interties, holder, stage)
-                & pending::holder_pending_in_order(state, interties, holder, stage));
-    }
-    in_order
+    fields::fields_in_range(state)
+        & balance::limits_balance(state)
+        & locks::locks_in_order(state)
+        & pending::pending_in_order(state)
 }

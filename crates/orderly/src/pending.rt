@@ -1,19 +1,20 @@
-// Pending kW of a holder.
+// Pending kW.
 ghost use Rattle.std.specs.Prelude.{◌≡◌, ◌<◌, ◌≤◌, length, nat_le};
-ghost use Rattle.base.specs.Sums.{sum_to};
-ghost use Rattle.base.specs.Limits.{state_words, most_holders, most_interties};
-ghost use Rattle.state.specs.Layout.{pending_of};
-ghost use Rattle.orderly.specs.Workers.Check.{most_pending};
+ghost use Rattle.base.specs.Limits.{state_words, most_holders};
+ghost use Rattle.state.specs.Layout.{pending_of, of_holder};
+ghost use Rattle.state.specs.Orderly.{pending_within_unplaced};
+ghost use Rattle.orderly.specs.Workers.Check.{Sized, most_pending};
 
-use super::rows::{row_sum, row_word, rows_are_clear};
+use super::rows::{row_is_clear, row_sum, row_word};
 use base::stages;
 use state::layout;
 
 // The most that a holder may have pending: its unplaced, and 0 in stages 1 and 4.
-fn most_pending(state: &[u32], holder: u32, stage: u32) -> u64
+fn most_pending(state: &[u32], holder: u32) -> u64
     requires { (state_words ≤ length state.now) × (holder < most_holders) }
-    ensures { result ≡ most_pending state.now stage holder }
+    ensures { result ≡ most_pending state.now holder }
 {
+    let stage = state::stage(state);
     if (stage == stages::TRADING) | (stage == stages::OPEN) {
         return 0;
     }
@@ -21,19 +22,26 @@ fn most_pending(state: &[u32], holder: u32, stage: u32) -> u64
 }
 
 // Whether a holder's pending kW are within their most. Where that is 0, so is each of them.
-pub(super) fn holder_pending_in_order(
-    state: &[u32],
-    interties: usize,
-    holder: u32,
-    stage: u32,
-) -> bool
-    requires { (state_words ≤ length state.now) × (interties ≤ most_interties) × (holder < most_holders) }
-    ensures { let s = state.now in result ≡ nat_le (sum_to interties (pending_of s holder)) (most_pending s stage holder) }
+fn holder_pending_in_order(state: &[u32], holder: u32) -> bool
+    requires { Sized state.now × (holder < most_holders) }
+    ensures { let s = state.now in result ≡ nat_le (of_holder pending_of s holder) (most_pending s holder) }
 {
-    let most = most_pending(state, holder, stage);
-    let row = layout::PENDING + holder;
+    let interties = state::intertie_count(state) as usize;
+    let most = most_pending(state, holder);
     if most == 0 {
-        return rows_are_clear(state, row, row, interties);
+        return row_is_clear(state, layout::PENDING + holder, interties);
     }
-    row_sum(state, row, interties) <= most
+    row_sum(state, layout::PENDING + holder, interties) <= most
+}
+
+// Whether the pending kW of all holders are in order.
+pub(super) fn pending_in_order(state: &[u32]) -> bool
+    requires { Sized state.now }
+    ensures { result ≡ pending_within_unplaced state.now }
+{
+    let mut in_order = true;
+    for holder in 0..state::holder_count(state) {
+        in_order = in_order & holder_pending_in_order(state, holder);
+    }
+    in_order
 }

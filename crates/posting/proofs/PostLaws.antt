@@ -3,9 +3,7 @@ use Prim.Native.Nat.{ℕ, ◌+◌, ◌*◌, ◌≤◌, ◌<◌}
 use mathlib.Core.Path.{◌≡◌, refl, sym, ap, ◌∙◌}
 use mathlib.Core.Logic.{◌≢◌, ⊎_elim}
 use mathlib.Core.List.{List}
-use native.Mathlib.Nat.{le_refl}
 use native.Mathlib.Omega.{arith}
-use lib.Dec.{eqb, lit≤}
 use lib.ListN.{length, replicate, length-replicate}
 use borrow.Author.Tests.{ne_eqb}
 use Rattle.base.specs.Sums.{sum_to}
@@ -16,13 +14,10 @@ use Rattle.base.proofs.SumLaws.{sum_to-same}
 use Rattle.base.proofs.WordLaws.{at_fill}
 use Rattle.state.specs.Layout.{interties, holders}
 use Rattle.sheet_records.specs.Refusal.{sheet_refusal}
-use Rattle.state_rows.specs.Rows.{fill_row}
 use Rattle.steps.specs.Inputs.{Inputs, of_sheet}
-use Rattle.steps.specs.Valid.{Valid}
 use Rattle.steps.specs.Step2.{available_total, load_share_quantity}
 use Rattle.steps.specs.Step4a.{existing_on, pre_ra_granted}
 use Rattle.steps.specs.Step4b.{new_use_granted}
-use Rattle.steps.specs.Step5to7.{held, step5_share, unassigned}
 use Rattle.steps.proofs.SheetValid.{valid-sheet}
 use Rattle.opening.specs.Opened.{opened_state}
 use Rattle.opening.specs.Open.{Outcome, opened, quantities_found}
@@ -30,7 +25,7 @@ use Rattle.opening.proofs.OpenedLaws.{Opened, opened-state}
 use Rattle.opening.proofs.TableOpening.{zero_or, open-refused, open-granted, found-granted}
 use Rattle.opening.proofs.WriteLaws.{row_same}
 use Rattle.posting.specs.Post.{pre_ra_on, new_use_on, intertie_lines, holder_lines, Posted, posted}
-use Rattle.posting.specs.Workers.Lines.{Readable, row_word, field_on, interties_from, holders_from}
+use Rattle.posting.specs.Workers.Lines.{Readable, field_on, interties_from, holders_from}
 
 -- a state t that opening with y left
 module _ (y : Inputs) (t l : List ℕ) (o : Opened y t) (I H : ℕ) (i-is : I ≡ y.interties) (h-is : H ≡ y.holders) where

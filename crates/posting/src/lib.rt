@@ -1,4 +1,6 @@
 // The posting of a sheet (docs/RULES.md, "Beside the year"): what program `post` prints, as numbers.
+#![tactic(auto)]
+
 mod lines;
 pub mod rows;
 

@@ -1,10 +1,13 @@
 // The posting as text. Each function writes from a place on and answers the place after it.
+#![tactic(auto)]
+
 ghost use Rattle.std.specs.Prelude.{◌≡◌, ◌+◌, ◌*◌, ◌≤◌, ◌<◌, ◌∷◌, [], length};
 ghost use Rattle.base.specs.Limits.{most_interties, most_holders};
-ghost use Rattle.text.specs.Written.{written, Starts};
-ghost use Rattle.text.specs.Lines.{blank, figure_bytes, figures_of, line_of, each};
+ghost use Rattle.io.specs.Counts.{IsPrefixLen};
+ghost use Rattle.text.specs.Written.{written};
+ghost use Rattle.text.specs.Lines.{blank, figure_bytes, figures_of, each};
 ghost use Rattle.posting.specs.Rows.{posting_rows};
-ghost use Rattle.posting_text.specs.Text.{text_of};
+ghost use Rattle.posting_text.specs.Text.{line, text_of};
 ghost use Rattle.posting_text.specs.Workers.Columns.{intertie_rows, short_bytes, long_bytes, text_bytes};
 ghost use Rattle.posting_text.specs.Workers.Columns.{column_of, column_line, lines_text};
 
@@ -23,7 +26,7 @@ pub const TEXT_BYTES: usize = (1 + MOST_INTERTIES + MOST_HOLDERS) * LINE_BYTES;
 // A letter and a number.
 fn put_short_line(letter: u8, number: u64, out: &mut [u8], at: usize) -> usize
     requires { at + short_bytes ≤ length out.old }
-    ensures { let text = line_of (letter ∷ []) blank (number ∷ []) in
+    ensures { let text = line letter (number ∷ []) in
         (result ≡ at + length text) × (out.new ≡ written at text out.old) }
 {
     let number_at = put(letter, out, at);
@@ -134,7 +137,8 @@ fn put_posting(
 
 // Writes what `post` prints of a sheet, and answers how many bytes it is.
 pub fn posting_text(sheet: &[u8], out: &mut [u8; TEXT_BYTES]) -> usize
-    ensures { Starts (text_of sheet.now) result out.old out.new }
+    ensures { let text = text_of sheet.now in
+        (result ≡ length text) × (out.new ≡ written 0 text out.old) × IsPrefixLen result out.new }
 {
     let mut numbers = [0u64; NUMBERS];
     let answer = posting::post(sheet, &mut numbers);

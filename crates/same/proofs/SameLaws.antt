@@ -13,16 +13,13 @@ use Rattle.base.specs.Words.{at}
 use Rattle.base.specs.declared.Answer.{Answer}
 use Rattle.base.proofs.SumLaws.{all_to-each, all_to-all}
 use Rattle.base.specs.Limits.{state_words}
-use Rattle.state.specs.Layout.{place, interties, holders}
 use Rattle.sheet_records.specs.Refusal.{sheet_refusal}
 use Rattle.steps.specs.Inputs.{Inputs, of_sheet}
 use Rattle.steps.proofs.SheetValid.{valid-sheet}
-use Rattle.opening.specs.Opened.{opened_state}
 use Rattle.opening.specs.Open.{Outcome, opened}
 use Rattle.opening.proofs.OpenedLaws.{Opened, opened-state}
 use Rattle.opening.proofs.TableOpening.{open-granted, whole-number}
 use Rattle.opening.proofs.SameLaws.{SameFigures, same-opened}
-use Rattle.same.specs.declared.Verdict.{Verdict}
 use Rattle.same.specs.Same.{year_of, open_alike, refused_verdict, verdict, compared}
 
 -- a sheet that stands is opened over 16,000 zeros

@@ -1,4 +1,6 @@
 // Same: whether two sheets open to the same year (docs/RULES.md, "Beside the year").
+#![tactic(auto)]
+
 ghost use Rattle.std.specs.Prelude.{◌≡◌, ℕ, ◌<◌, eqb, length};
 ghost use Rattle.base.specs.Sums.{all_to};
 ghost use Rattle.base.specs.Words.{at};
@@ -8,7 +10,7 @@ use base::limits::STATE_WORDS;
 
 // A refusal's number, or 0 and whether the sheets open alike. No kW, no passes.
 #[repr(C)]
-#[derive(Drop)]
+#[derive(Clone, Copy)]
 pub struct Verdict {
     pub refusal: u32,
     pub same: bool,

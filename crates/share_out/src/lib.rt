@@ -1,4 +1,6 @@
 // The share-out: a pool over claims with weights, in passes (docs/RULES.md, "Share-out").
+#![tactic(auto)]
+
 ghost use Rattle.std.specs.Prelude.{◌≡◌, not, ◌&&◌, ℕ, ◌*◌, ◌/◌, ◌≤◌, length, leb, ltb};
 ghost use Rattle.base.specs.Choice.{pick};
 ghost use Rattle.base.specs.Limits.{most_kw, most_claim_kw, most_load_share};
@@ -130,7 +132,7 @@ fn open_weight(unmet: u64, weight: u64) -> u64
 // Before anything is granted, notes the weight that each holder brings into W; hands back W, the open weights' sum.
 fn weigh_open(claims: &[u64], weights: &[u64], open_weights: &mut [u64; MOST_HOLDERS]) -> u64
     requires { Weighable claims.now weights.now open_weights.old }
-    ensures { let claims = claims.entry.now in
+    ensures { let claims = claims.now in
         Weighed result claims weights.now (none claims) open_weights.new }
 {
     let mut all = 0;
@@ -195,7 +197,7 @@ fn serve_in_turn(
     grants: &mut [u64],
 ) -> u64
     requires { Serving claims.now open_weights.now grants.old }
-    ensures { let claims = claims.entry.now in let g = grants.old in
+    ensures { let claims = claims.now in let g = grants.old in
         Raised result grants.new (length claims) g (in_turn left (wants singly claims open_weights.now g)) }
 {
     let mut rest = left;
@@ -239,7 +241,7 @@ fn complete(
 fn by_passes(pool: u64, claims: &[u64], weights: &[u64], grants: &mut [u64]) -> u64
     requires { Ready pool claims.now weights.now grants.old }
     ensures { shared pool claims.now weights.now
-        ≡ record { grants = grants.exit.now; passes = result } }
+        ≡ record { grants = grants.new; passes = result } }
 {
     let mut open_weights = [0u64; MOST_HOLDERS];
     let mut all = weigh_open(claims, weights, &mut open_weights);
@@ -274,7 +276,7 @@ fn by_passes(pool: u64, claims: &[u64], weights: &[u64], grants: &mut [u64]) -> 
 // Shares out what refusals 5 and 9 let pass: each claim whole where they fit, else by passes.
 fn share(pool: u64, claims: &[u64], weights: &[u64], grants: &mut [u64]) -> Answer
     requires { Accepted pool claims.now weights.now grants.old }
-    ensures { let claims = claims.entry.now in let weights = weights.entry.now in
+    ensures { let claims = claims.now in let weights = weights.now in
         (result ≡ shared_answer pool claims weights) × (grants.new ≡ (shared pool claims weights).grants) }
 {
     let total = vectors::sum_of(claims);

@@ -1,27 +1,26 @@
 -- Refusals 2, 3 and 4 as they are decided from the sizes and the tables.
 use Prim.Native.Nat.{ℕ, ◌+◌, ◌*◌, ◌≤◌, ◌<◌, zero-le}
 use mathlib.Core.Path.{◌≡◌, refl, sym, ap, ◌∙◌}
-use mathlib.Core.Bool.{Bool, true, false, ◌&&◌, ◌||◌, not}
+use mathlib.Core.Bool.{Bool, true, false, ◌&&◌, not}
 use mathlib.Core.Logic.{⊎_elim}
 use mathlib.Core.List.{List}
 use native.Mathlib.Omega.{arith}
 use native.Mathlib.Nat.{le_trans, mul-le-mul_right, add_assoc}
-use lib.Dec.{leb, ltb, eqb}
+use lib.Dec.{leb, eqb}
 use lib.ListN.{length, get_or-eq_default}
-use Rattle.base.specs.Choice.{pick}
 use Rattle.base.specs.Sums.{sum_to, all_to}
 use Rattle.base.specs.Words.{at}
 use Rattle.base.proofs.WordLaws.{length-tab, at-tab}
 use Rattle.base.proofs.SumLaws.{sum_to-bound, sum_to-same, all_to-same}
 use Rattle.sheet_records.specs.Sheet.{interties, holders, count, kw_at, sum_over, how_many, is_limit, is_load_share, is_new_use, limit, outside, existing, existing_on}
-use Rattle.sheet_records.specs.Refusal.{within, bad_length, Whole, bad_sizes, records_stand, one_limit_each, one_load_share_each, no_rank_twice, rules_hold, limits_hold, sheet_refusal}
-use Rattle.sheet_reading.specs.Tables.{slots, slot_of, limit_slot, outside_slot, load_share_slot, existing_slot, new_use_slot, table, count_table, kw_table, intertie_table, after, ReadSheet}
-use Rattle.sheet_reading.specs.Workers.Deciding.{early_refusal, late_refusal, each_stands, table_rules_hold, table_existing_on, table_limit_holds, Modest}
+use Rattle.sheet_records.specs.Refusal.{within, bad_length, bad_sizes, records_stand, one_limit_each, one_load_share_each, no_rank_twice, rules_hold, limits_hold, sheet_refusal}
+use Rattle.sheet_reading.specs.Tables.{slots, slot_of, limit_slot, outside_slot, load_share_slot, existing_slot, new_use_slot, table, count_table, kw_table, ReadSheet}
+use Rattle.sheet_reading.specs.Workers.Adding.{Filled}
+use Rattle.sheet_reading.specs.Workers.Deciding.{table_rules_hold, table_existing_on, table_limit_holds, Modest}
 use Rattle.base.proofs.ChoiceLaws.{le-or-lt}
 use Rattle.base.proofs.SumLaws.{all_to-rows}
 use Rattle.sheet_reading.proofs.TableLaws.{at-limit, at-load-share, at-new-use, limit-at, outside-at, existing-at}
-use Rattle.sheet_records.proofs.RefusalLaws.{long-enough, counted, sized}
-use Rattle.sheet_reading.proofs.SheetLaws.{passed-by}
+use Rattle.sheet_records.proofs.RefusalLaws.{sized}
 use Rattle.sheet_records.proofs.OverLaws.{over-all}
 use Rattle.sheet_records.proofs.ReadingLaws.{word_below}
 
@@ -93,93 +92,50 @@ module _ (s : List ℕ) (whole : bad_length s ≡ false) (sizes : bad_sizes s �
       let z = sized s sizes in
       eb ∙ rw (ek, eh, ei) (limits-summed s z.few-interties z.few-holders)
 
--- the same from the words as they were read
-module _ (s : List ℕ) (n : ℕ) (w : Whole s n) (sizes : bad_sizes s ≡ false) where
-  pub few-holders : (H : ℕ) → H ≡ pick (ltb (length s) 12) 0 (holders s) → H ≤ 32
-  few-holders H e = omega (arith, long-enough s H (holders s) w.passes e, sized s sizes)
+module _ (s : List ℕ) (whole : bad_length s ≡ false) (sizes : bad_sizes s ≡ false) where
+  pub refused-3 : (a : Bool) → a ≡ rules_hold s → a ≡ false → 3 ≡ sheet_refusal s
+  unfolding sheet_refusal
+  refused-3 a e f = simp (whole, sizes, ← e, f)
 
-  pub few-interties : (I : ℕ) → I ≡ pick (ltb (length s) 12) 0 (interties s) → I ≤ 64
-  few-interties I e = omega (arith, long-enough s I (interties s) w.passes e, sized s sizes)
+  pub refused-4 : (a b : Bool) → a ≡ rules_hold s → a ≡ true → b ≡ limits_hold s → b ≡ false → 4 ≡ sheet_refusal s
+  unfolding sheet_refusal
+  refused-4 a b e t g f = simp (whole, sizes, ← e, t, ← g, f)
 
-  module _ (H I : ℕ) (eh : H ≡ pick (ltb (length s) 12) 0 (holders s)) (ei : I ≡ pick (ltb (length s) 12) 0 (interties s)) where
-    all-stand : (stand : Bool) → stand ≡ each_stands s n I H → stand ≡ records_stand s
-    unfolding records_stand
-    all-stand stand e =
-        e ∙ ap (λ (x : ℕ). each_stands s x I H) w.records
-        ∙ ap (λ (x : ℕ). each_stands s (count s) x H) (long-enough s I (interties s) w.passes ei)
-        ∙ ap (each_stands s (count s) (interties s)) (long-enough s H (holders s) w.passes eh)
+  pub stands : (a b : Bool) → a ≡ rules_hold s → a ≡ true → b ≡ limits_hold s → b ≡ true → 0 ≡ sheet_refusal s
+  unfolding sheet_refusal
+  stands a b e t g u = simp (whole, sizes, ← e, t, ← g, u)
 
-    pub decided : (stand rules limits : Bool) (counts kw : List ℕ) (r : ℕ) → stand ≡ each_stands s n I H → counts ≡ count_table s → kw ≡ kw_table s
-        → rules ≡ table_rules_hold stand counts H I → limits ≡ all_to I (table_limit_holds kw H) → r ≡ late_refusal rules limits → r ≡ sheet_refusal s
-    unfolding sheet_refusal
-    decided stand rules limits counts kw r es ec ek er el e =
-        let h = long-enough s H (holders s) w.passes eh in
-        let i = long-enough s I (interties s) w.passes ei in
-        let a : rules ≡ rules_hold s = rules-decided s w.passes sizes H I h i stand rules counts (all-stand stand es) ec er in
-        let b : limits ≡ limits_hold s = limits-decided s w.passes sizes H I h i limits kw ek el in
-        e ∙ simp (w.passes, sizes, ← a, ← b)
+pub sizes-decided : (s : List ℕ) (I H : ℕ) (b : Bool) → I ≡ interties s → H ≡ holders s → b ≡ not (within 1 48 I && within 1 32 H) → b ≡ bad_sizes s
+unfolding bad_sizes
+sizes-decided s I H b ei eh eb = rw (← ei, ← eh) eb
 
-pub modest-table : (s : List ℕ) (n : ℕ) (kw : List ℕ) → Whole s n → ((i : ℕ) → at s i < 256) → kw ≡ kw_table s → Modest kw
-modest-table s n kw w bytes e = rw e (modest s (omega (arith, w)) bytes)
+-- the three ways that a reading ends
+pub read-sheet-1 : (s counts kw ties : List ℕ) (a : Bool) → a ≡ bad_length s → a ≡ true → ReadSheet s counts kw ties 1 counts kw ties
+unfolding sheet_refusal
+read-sheet-1 s counts kw ties a e t =
+    record {
+      answer = simp (← e, t);
+      counted = simp (← e, t);
+      summed = simp (← e, t);
+      placed = simp (← e, t);
+    }
 
--- refusals 1 and 2 from their tests
-pub early-1 : (s : List ℕ) (a : Bool) → a ≡ bad_length s → a ≡ true → 1 ≡ early_refusal s
-early-1 s a e t = simp (← e, t)
+pub read-sheet-2 : (s counts kw ties : List ℕ) (a b : Bool) → a ≡ bad_length s → a ≡ false → b ≡ bad_sizes s → b ≡ true → ReadSheet s counts kw ties 2 counts kw ties
+unfolding sheet_refusal
+read-sheet-2 s counts kw ties a b e f g t =
+    record {
+      answer = simp (← e, f, ← g, t);
+      counted = simp (← e, f, ← g, t);
+      summed = simp (← e, f, ← g, t);
+      placed = simp (← e, f, ← g, t);
+    }
 
-module _ (s : List ℕ) (a b : Bool) (I H : ℕ) (ea : a ≡ bad_length s) (f : a ≡ false) (ei : I ≡ pick (ltb (length s) 12) 0 (interties s))
-    (eh : H ≡ pick (ltb (length s) 12) 0 (holders s)) (eb : b ≡ not (within 1 48 I && within 1 32 H)) where
-  sizes-decided : b ≡ bad_sizes s
-  unfolding bad_sizes
-  sizes-decided = rw (← long-enough s I (interties s) (sym ea ∙ f) ei, ← long-enough s H (holders s) (sym ea ∙ f) eh) eb
-
-  pub early-2 : b ≡ true → 2 ≡ early_refusal s
-  early-2 t = simp (← ea, f, ← sizes-decided, t)
-
-  pub early-0 : b ≡ false → 0 ≡ early_refusal s
-  early-0 t = simp (← ea, f, ← sizes-decided, t)
-
--- what an early refusal says of the sheet and of the tables
-module _ (s : List ℕ) (e : ℕ) (is : e ≡ early_refusal s) where
-  passes : e ≡ 0 → (bad_length s ≡ false) × (bad_sizes s ≡ false)
-  passes z =
-      let one = passed-by (bad_length s) 1 _ (omega arith) (sym is ∙ z) in
-      let two = passed-by (bad_sizes s) 2 0 (omega arith) one.1 in
-      (one.0, two.0)
-
-  pub early-whole : e ≡ 0 → (n : ℕ) → n ≡ pick (ltb (length s) 12) 0 (count s) → Whole s n
-  early-whole z n m = counted s n (passes z).0 m
-
-  pub early-sizes : e ≡ 0 → bad_sizes s ≡ false
-  early-sizes z = (passes z).1
-
-  module _ (refused : e ≡ 0 → ⊥) where
-    pub early-refused : e ≡ sheet_refusal s
-    unfolding sheet_refusal
-    early-refused = is ∙ go (bad_length s) (bad_sizes s) _ (λ z. refused (is ∙ z))
-      where
-        go : (a b : Bool) (rest : ℕ) → (pick {A = ℕ} a 1 (pick b 2 0) ≡ 0 → ⊥) → pick {A = ℕ} a 1 (pick b 2 0) ≡ pick a 1 (pick b 2 rest)
-        go true b rest n = refl
-        go false true rest n = refl
-        go false false rest n = absurd (n refl)
-
-    kept : (l filled : List ℕ) → l ≡ after s l filled
-    kept l filled = go (bad_length s) (bad_sizes s) (λ z. refused (is ∙ z))
-      where
-        go : (a b : Bool) → (pick {A = ℕ} a 1 (pick b 2 0) ≡ 0 → ⊥) → l ≡ pick (a || b) l filled
-        go true b n = refl
-        go false true n = refl
-        go false false n = absurd (n refl)
-
-    pub read-early : (counts kw ties : List ℕ) → ReadSheet s counts kw ties e counts kw ties
-    read-early counts kw ties = record { answer = early-refused; counted = kept counts _; summed = kept kw _; placed = kept ties _ }
-
-pub read-filled : (s counts₀ kw₀ ties₀ counts kw ties : List ℕ) (e r : ℕ) → e ≡ early_refusal s → e ≡ 0 → r ≡ sheet_refusal s
-    → counts ≡ count_table s → kw ≡ kw_table s → ties ≡ intertie_table s → ReadSheet s counts₀ kw₀ ties₀ r counts kw ties
-read-filled s counts₀ kw₀ ties₀ counts kw ties e r is z a ec ek et =
-    let p = passes s e is z in
+pub read-sheet-filled : (s counts₀ kw₀ ties₀ counts kw ties : List ℕ) (r : ℕ) → bad_length s ≡ false → bad_sizes s ≡ false → r ≡ sheet_refusal s → Filled s counts kw ties
+    → ReadSheet s counts₀ kw₀ ties₀ r counts kw ties
+read-sheet-filled s counts₀ kw₀ ties₀ counts kw ties r e f a t =
     record {
       answer = a;
-      counted = simp (p.0, p.1) ec;
-      summed = simp (p.0, p.1) ek;
-      placed = simp (p.0, p.1) et;
+      counted = simp (e, f) t.counted;
+      summed = simp (e, f) t.summed;
+      placed = simp (e, f) t.placed;
     }

@@ -1,43 +1,93 @@
 -- The rule of a record by its kind, over the fields as they were taken out of the key.
-use Prim.Native.Nat.{ℕ, ◌≤◌, ◌<◌}
-use mathlib.Core.Path.{◌≡◌}
-use mathlib.Core.Bool.{false, ◌&&◌}
+use Prim.Native.Nat.{ℕ, ◌≤◌, ◌<◌, zero-le}
+use mathlib.Core.Path.{◌≡◌, refl, sym, ◌∙◌}
+use mathlib.Core.Bool.{Bool, true, false, ◌&&◌, ◌||◌, not, and-false, false≢true}
+use mathlib.Core.Logic.{⊎_elim}
 use native.Mathlib.Omega.{arith}
-use borrow.Author.Tests.{le-leb, lt-leb, ne_eqb}
+use borrow.Author.Tests.{eqb-true, eqb-false, le-leb, lt-leb, ne_eqb, leb-true}
 use lib.Dec.{ltb, leb, eqb}
+use Rattle.base.specs.Choice.{pick}
+use Rattle.base.proofs.ChoiceLaws.{and_left, and_right, pick-by}
 use Rattle.sheet_keys.specs.Key.{kind_of, holder_of, intertie_of, rank_of, years_of}
 use Rattle.sheet_records.specs.Refusal.{record_stands, within}
+use Rattle.sheet_reading.specs.Workers.Kinds.{names_holder, names_intertie, names_rank, names_years, least_of, most_of}
+use Rattle.base.proofs.ChoiceLaws.{le-or-lt}
 
-module _ (I H key kw k h i r y : ℕ)
-    (ek : k ≡ kind_of key) (eh : h ≡ holder_of key) (ei : i ≡ intertie_of key) (er : r ≡ rank_of key) (ey : y ≡ years_of key) where
-  pub limit-rule : k ≡ 1 → (eqb h 0 && ltb i I && eqb r 0 && eqb y 0 && leb kw 20_000_000) ≡ record_stands I H key kw
-  unfolding record_stands
-  limit-rule e = simp (← ek, ← eh, ← ei, ← er, ← ey, e)
+-- one of two tests, as a third says
+pub one_of : (n a b : Bool) → (n && a || not n && b) ≡ pick n a b
+one_of true true b = refl
+one_of true false b = refl
+one_of false a b = refl
 
-  pub outside-rule : k ≡ 2 → (eqb h 0 && ltb i I && eqb r 0 && eqb y 0 && within 1 20_000_000 kw) ≡ record_stands I H key kw
-  unfolding record_stands
-  outside-rule e = simp (← ek, ← eh, ← ei, ← er, ← ey, e)
+-- no quantity is from 1 to 0
+none_within : (kw : ℕ) → within 1 0 kw ≡ false
+none_within kw = go (leb 1 kw) refl
+  where
+    go : (b : Bool) → leb 1 kw ≡ b → (b && leb kw 0) ≡ false
+    go true t = let l = leb-true 1 kw t in lt-leb kw 0 (omega arith)
+    go false t = refl
 
-  pub load-share-rule : k ≡ 3 → (ltb h H && eqb i 0 && eqb r 0 && eqb y 0 && leb kw 100_000_000) ≡ record_stands I H key kw
-  unfolding record_stands
-  load-share-rule e = simp (← ek, ← eh, ← ei, ← er, ← ey, e)
+-- what a kind says, where its tests don't show it at once
+module _ (k : ℕ) where
+  pub no-intertie-0 : k < 1 → false ≡ names_intertie k
+  no-intertie-0 l = let e : k ≡ 0 = omega arith in rw e refl
 
-  pub contract-rule : (k ≡ 1 → ⊥) → (k ≡ 2 → ⊥) → (k ≡ 3 → ⊥) → 1 ≤ k → k < 6
-      → (ltb h H && ltb i I && eqb r 0 && within 1 30 y && within 1 20_000_000 kw) ≡ record_stands I H key kw
-  unfolding record_stands
-  contract-rule n₁ n₂ n₃ l m =
-      simp (← ek, ← eh, ← ei, ← er, ← ey, ne_eqb k 1 n₁, ne_eqb k 2 n₂, ne_eqb k 3 n₃, le-leb 4 k (omega arith), le-leb k 5 (omega arith))
+  pub least-load-share : k ≡ 3 → 0 ≡ least_of k
+  least-load-share e = rw e refl
 
-  pub new-use-rule : k ≡ 6 → (ltb h H && ltb i I && leb 1 r && within 1 30 y && within 1 20_000_000 kw) ≡ record_stands I H key kw
-  unfolding record_stands
-  new-use-rule e = simp (← ek, ← eh, ← ei, ← er, ← ey, e)
+  pub most-outside : 1 ≤ k → k ≤ 2 → 20_000_000 ≡ most_of k
+  most-outside l m = simp (ne_eqb k 3 (λ e. omega arith), le-leb 1 k l, le-leb k 6 (omega arith))
 
-  -- kind 0, and kinds 7 to 15
-  pub no-kind-0 : k < 1 → false ≡ record_stands I H key kw
-  unfolding record_stands
-  no-kind-0 l = let e : k ≡ 0 = omega arith in simp (← ek, e)
+module _ (I H kw k h i r y : ℕ) where
+  -- a record by what its kind says
+  abbrev by_kind : Bool
+  by_kind =
+      pick (names_holder k) (ltb h H) (eqb h 0)
+      && pick (names_intertie k) (ltb i I) (eqb i 0)
+      && pick (names_rank k) (leb 1 r) (eqb r 0)
+      && pick (names_years k) (within 1 30 y) (eqb y 0)
+      && within (least_of k) (most_of k) kw
 
-  pub no-kind-7 : (k ≡ 6 → ⊥) → 6 ≤ k → false ≡ record_stands I H key kw
+  -- kinds 0 and 7 to 15
+  no_kind : (k ≡ 1 → ⊥) → (k ≡ 2 → ⊥) → (k ≡ 3 → ⊥) → within 4 5 k ≡ false → (k ≡ 6 → ⊥) → within (least_of k) (most_of k) kw ≡ false
+  no_kind n₁ n₂ n₃ n₄ n₆ =
+      ⊎_elim
+      (λ (l : k ≤ 0). let e : k ≡ 0 = omega arith in rw e (none_within kw))
+      (λ (l : 0 < k). simp (ne_eqb k 1 n₁, ne_eqb k 3 n₃, le-leb 1 k l, lt-leb k 6 (past l)) (none_within kw))
+      (le-or-lt k 0)
+    where
+      past : 0 < k → 6 < k
+      past l =
+          ⊎_elim
+          (λ (m : k ≤ 6). absurd (false≢true (sym n₄ ∙ simp (le-leb 4 k (omega arith), le-leb k 5 (omega arith)))))
+          (λ (m : 6 < k). m)
+          (le-or-lt k 6)
+
+  by-its-kind : (key : ℕ) → k ≡ kind_of key → h ≡ holder_of key → i ≡ intertie_of key → r ≡ rank_of key → y ≡ years_of key → by_kind ≡ record_stands I H key kw
   unfolding record_stands
-  no-kind-7 n l =
-      simp (← ek, ne_eqb k 1 (λ e. omega arith), ne_eqb k 2 (λ e. omega arith), ne_eqb k 3 (λ e. omega arith), le-leb 4 k (omega arith), lt-leb k 5 (omega arith), ne_eqb k 6 n)
+  by-its-kind key ek eh ei er ey =
+      rw (← ek, ← eh, ← ei, ← er, ← ey)
+      (pick-by (λ (b : Bool). by_kind ≡ b) (eqb k 1) _ _
+      (λ t. let e = eqb-true k 1 t in simp (e, le-leb 0 kw zero-le))
+      (λ n₁. pick-by (λ (b : Bool). by_kind ≡ b) (eqb k 2) _ _
+      (λ t. let e = eqb-true k 2 t in simp e)
+      (λ n₂. pick-by (λ (b : Bool). by_kind ≡ b) (eqb k 3) _ _
+      (λ t. let e = eqb-true k 3 t in simp (e, le-leb 0 kw zero-le))
+      (λ n₃. pick-by (λ (b : Bool). by_kind ≡ b) (within 4 5 k) _ _
+      (λ t.
+      let l = leb-true 4 k (and_left (leb 4 k) (leb k 5) t) in
+      let m = leb-true k 5 (and_right (leb 4 k) (leb k 5) t) in
+      simp (n₁, n₃, ne_eqb k 6 (λ e. omega arith), le-leb 3 k (omega arith), le-leb k 6 (omega arith), lt-leb k 2 (omega arith), le-leb 4 k l, le-leb 1 k (omega arith)))
+      (λ n₄. pick-by (λ (b : Bool). by_kind ≡ b) (eqb k 6) _ _
+      (λ t. let e = eqb-true k 6 t in simp e)
+      (λ n₆. simp (no_kind (eqb-false k 1 n₁) (eqb-false k 2 n₂) (eqb-false k 3 n₃) n₄ (eqb-false k 6 n₆), and-false)))))))
+
+  -- the same from the code's tests
+  pub record-rule : (key : ℕ) (n₁ n₂ n₃ n₄ a b c d e : Bool)
+      → k ≡ kind_of key → h ≡ holder_of key → i ≡ intertie_of key → r ≡ rank_of key → y ≡ years_of key
+      → n₁ ≡ names_holder k → n₂ ≡ names_intertie k → n₃ ≡ names_rank k → n₄ ≡ names_years k
+      → a ≡ pick n₁ (ltb h H) (eqb h 0) → b ≡ pick n₂ (ltb i I) (eqb i 0) → c ≡ pick n₃ (leb 1 r) (eqb r 0)
+      → d ≡ pick n₄ (within 1 30 y) (eqb y 0) → e ≡ within (least_of k) (most_of k) kw
+      → (a && b && c && d && e) ≡ record_stands I H key kw
+  record-rule key n₁ n₂ n₃ n₄ a b c d e ek eh ei er ey e₁ e₂ e₃ e₄ ea eb ec ed ee =
+      rw (ea, eb, ec, ed, ee, e₁, e₂, e₃, e₄) (by-its-kind key ek eh ei er ey)

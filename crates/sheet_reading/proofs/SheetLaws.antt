@@ -70,7 +70,7 @@ pub record Stands (s : List ℕ) : Type 0 where
   pub new-use-bound : (h r : ℕ) → h < holders s → r < 256 → new_use_kw s h r ≤ 20_000_000
   pub new-use-place : (h r : ℕ) → h < holders s → r < 256 → new_use_intertie s h r < interties s
 
-pub passed-by : (b : Bool) (n rest : ℕ) → (n ≡ 0 → ⊥) → pick b n rest ≡ 0 → (b ≡ false) × (rest ≡ 0)
+passed-by : (b : Bool) (n rest : ℕ) → (n ≡ 0 → ⊥) → pick b n rest ≡ 0 → (b ≡ false) × (rest ≡ 0)
 passed-by true n rest f e = absurd (f e)
 passed-by false n rest f e = (refl, e)
 

@@ -1,3 +1,4 @@
 -- What private functions ask and promise one another. No public contract cites these; a reader need not believe them.
+pub mod Kinds
 pub mod Adding
 pub mod Deciding

@@ -4,11 +4,10 @@ ghost use Rattle.base.specs.Limits.{most_interties, most_holders};
 ghost use Rattle.base.specs.Sums.{all_to};
 ghost use Rattle.base.specs.Words.{at};
 ghost use Rattle.sheet_keys.specs.Key.{key_interties};
-ghost use Rattle.sheet_records.specs.Refusal.{within, Whole, bad_sizes, sheet_refusal};
+ghost use Rattle.sheet_records.specs.Refusal.{within, bad_length, bad_sizes, sheet_refusal};
 ghost use Rattle.sheet_reading.specs.Tables.{slots, count_table, kw_table, ReadSheet};
 ghost use Rattle.sheet_reading.specs.Workers.Adding.{SlotsOf};
-ghost use Rattle.sheet_reading.specs.Workers.Deciding.{early_refusal, late_refusal, Modest};
-ghost use Rattle.sheet_reading.specs.Workers.Deciding.{table_rules_hold, table_existing_on, table_limit_holds};
+ghost use Rattle.sheet_reading.specs.Workers.Deciding.{table_rules_hold, table_existing_on, table_limit_holds, Modest};
 
 use crate::tables::SLOTS;
 use crate::{rules, tables};
@@ -26,19 +25,6 @@ fn bad_sizes(interties: u32, holders: u32) -> bool
 {
     !(((1 <= interties) & (interties <= MOST_INTERTIES))
         & ((1 <= holders) & (holders <= MOST_HOLDERS)))
-}
-
-// Refusals 1 and 2, 0 where neither applies.
-fn early_refusal(sheet: &[u8]) -> u32
-    ensures { result ≡ early_refusal sheet.now }
-{
-    if words::bad_length(sheet) {
-        return refusals::SHEET_LENGTH;
-    }
-    if bad_sizes(words::intertie_count(sheet), words::holder_count(sheet)) {
-        return refusals::SIZES;
-    }
-    0
 }
 
 // Whether each of the first n slots counts one record.
@@ -116,29 +102,14 @@ fn rules_hold(stand: bool, counts: &[u16; SLOTS], holders: usize, interties: usi
         & none_twice(counts, tables::NEW_USE, tables::HOLDER_RANKS * holders)
 }
 
-// Refusals 3 and 4, 0 where neither applies.
-fn late_refusal(rules: bool, limits: bool) -> u32
-    ensures { result ≡ late_refusal rules limits }
-{
-    if !rules {
-        return refusals::RECORDS;
-    }
-    if !limits {
-        return refusals::ABOVE_LIMIT;
-    }
-    0
-}
-
-// Refusals 3 and 4 of a sheet of `count` records that 1 and 2 let pass, and its records in cleared tables. The slots of the records
-// are at hand.
+// Refusals 3 and 4 of a sheet that 1 and 2 let pass, and its records in cleared tables. The slots of the records are at hand.
 fn read_sized(
     sheet: &[u8],
-    count: usize,
     found: &[u32; MOST_RECORDS],
     counts: &mut [u16; SLOTS],
     kw: &mut [u64; SLOTS],
 ) -> u32
-    requires { Whole sheet.now count
+    requires { (bad_length sheet.now ≡ false)
         × (bad_sizes sheet.now ≡ false)
         × SlotsOf sheet.now found.now
         × (counts.old ≡ replicate slots 0)
@@ -147,13 +118,19 @@ fn read_sized(
         × (counts.new ≡ count_table sheet.now)
         × (kw.new ≡ kw_table sheet.now) }
 {
-    let interties = words::intertie_count(sheet);
-    let holders = words::holder_count(sheet);
-    let stand = rules::records_stand(sheet, count, interties, holders);
-    tables::add_records(sheet, count, found, counts, kw);
-    let rules = rules_hold(stand, counts, holders as usize, interties as usize);
-    let limits = limits_hold(kw, holders as usize, interties as usize);
-    late_refusal(rules, limits)
+    let intertie_count = words::intertie_count(sheet) as usize;
+    let holder_count = words::holder_count(sheet) as usize;
+    let stand = rules::records_stand(sheet);
+    tables::add_records(sheet, found, counts, kw);
+    let rules = rules_hold(stand, counts, holder_count, intertie_count);
+    let limits = limits_hold(kw, holder_count, intertie_count);
+    if !rules {
+        return refusals::RECORDS;
+    }
+    if !limits {
+        return refusals::ABOVE_LIMIT;
+    }
+    0
 }
 
 // The refusal of a sheet, 0 where it stands, and the tables of its records (docs/RULES.md, "The sheet"). The tables may have any
@@ -167,32 +144,34 @@ pub fn read_sheet(
     ensures { ReadSheet sheet.now counts.old kw.old interties.old
         result counts.new kw.new interties.new }
 {
-    let early = early_refusal(sheet);
-    if early != 0 {
-        return early;
+    if words::bad_length(sheet) {
+        return refusals::SHEET_LENGTH;
     }
-    let count = words::record_count(sheet) as usize;
+    if bad_sizes(words::intertie_count(sheet), words::holder_count(sheet)) {
+        return refusals::SIZES;
+    }
     *counts = [0; SLOTS];
     *kw = [0; SLOTS];
     *interties = [0; SLOTS];
     let mut found = [0; MOST_RECORDS];
-    tables::find_slots(sheet, count, &mut found);
-    tables::place_records(sheet, count, &found, interties);
-    read_sized(sheet, count, &found, counts, kw)
+    tables::find_slots(sheet, &mut found);
+    tables::place_records(sheet, &found, interties);
+    read_sized(sheet, &found, counts, kw)
 }
 
 // The refusal of a sheet alone, 0 where it stands (docs/RULES.md, "The sheet").
 pub fn sheet_refusal(sheet: &[u8]) -> u32
     ensures { result ≡ sheet_refusal sheet.now }
 {
-    let refusal = early_refusal(sheet);
-    if refusal != 0 {
-        return refusal;
+    if words::bad_length(sheet) {
+        return refusals::SHEET_LENGTH;
     }
-    let count = words::record_count(sheet) as usize;
+    if bad_sizes(words::intertie_count(sheet), words::holder_count(sheet)) {
+        return refusals::SIZES;
+    }
     let mut found = [0; MOST_RECORDS];
-    tables::find_slots(sheet, count, &mut found);
+    tables::find_slots(sheet, &mut found);
     let mut counts = [0; SLOTS];
     let mut kw = [0; SLOTS];
-    read_sized(sheet, count, &found, &mut counts, &mut kw)
+    read_sized(sheet, &found, &mut counts, &mut kw)
 }

@@ -1,21 +1,99 @@
-// The rule of the sheet for a single record, by its kind, and for all of them. The tests of the fields are made before the match,
-// so that a record takes no branch.
-ghost use Rattle.std.specs.Prelude.{◌≡◌};
-ghost use Rattle.sheet_records.specs.Refusal.{Whole, record_stands};
-ghost use Rattle.sheet_reading.specs.Workers.Deciding.{each_stands};
+// The rule of the sheet for a single record, by its kind, and for all of them. What a kind says is
+// a match of constants, so that a record takes no branch.
+ghost use Rattle.std.specs.Prelude.{◌≡◌, false, eqb};
+ghost use Rattle.base.specs.Choice.{pick};
+ghost use Rattle.sheet_records.specs.Refusal.{within, bad_length, record_stands, records_stand};
+ghost use Rattle.sheet_reading.specs.Workers.Kinds.{names_holder, names_intertie, names_rank, names_years, least_of, most_of};
 
 use base::limits::MOST_YEARS;
 use base::{kinds, limits};
 use sheet_keys::key;
 use sheet_records::cursor::{Cursor, Read};
-use sheet_records::reader;
+use sheet_records::{reader, words};
 
 const MOST_KW: u32 = limits::MOST_KW as u32;
 
 const MOST_LOAD_SHARE: u32 = limits::MOST_LOAD_SHARE as u32;
 
-// Whether a record keeps the rule of its kind, on a sheet of so many interties and holders: a field that the kind names is in its
-// range, the others are 0, and the quantity stands. Kinds 0 and 7 to 15 have no rule.
+// Whether a kind names a holder.
+fn names_holder(kind: u32) -> bool
+    ensures { result ≡ names_holder kind }
+{
+    match kind {
+        kinds::LOAD_SHARE..=kinds::NEW_USE_COMMITMENT => true,
+        _ => false,
+    }
+}
+
+// Whether it names an intertie.
+fn names_intertie(kind: u32) -> bool
+    ensures { result ≡ names_intertie kind }
+{
+    match kind {
+        kinds::LIMIT..=kinds::OUTSIDE_RIGHT => true,
+        kinds::EXISTING_CONTRACT..=kinds::NEW_USE_COMMITMENT => true,
+        _ => false,
+    }
+}
+
+// Whether it names a rank.
+fn names_rank(kind: u32) -> bool
+    ensures { result ≡ names_rank kind }
+{
+    match kind {
+        kinds::NEW_USE_COMMITMENT => true,
+        _ => false,
+    }
+}
+
+// Whether it names years.
+fn names_years(kind: u32) -> bool
+    ensures { result ≡ names_years kind }
+{
+    match kind {
+        kinds::EXISTING_CONTRACT..=kinds::NEW_USE_COMMITMENT => true,
+        _ => false,
+    }
+}
+
+// The least quantity of a kind. Limits and load shares may be 0.
+fn least_kw(kind: u32) -> u32
+    ensures { result ≡ least_of kind }
+{
+    match kind {
+        kinds::LIMIT => 0,
+        kinds::LOAD_SHARE => 0,
+        _ => 1,
+    }
+}
+
+// The most of it. Kinds 0 and 7 to 15 have none that stands.
+fn most_kw(kind: u32) -> u32
+    ensures { result ≡ most_of kind }
+{
+    match kind {
+        kinds::LIMIT..=kinds::OUTSIDE_RIGHT => MOST_KW,
+        kinds::LOAD_SHARE => MOST_LOAD_SHARE,
+        kinds::EXISTING_CONTRACT..=kinds::NEW_USE_COMMITMENT => MOST_KW,
+        _ => 0,
+    }
+}
+
+// A field that the kind names is in its range; one that it doesn't name is 0.
+fn field_stands(named: bool, in_range: bool, field: u32) -> bool
+    ensures { result ≡ pick named in_range (eqb field 0) }
+{
+    (named & in_range) | (!named & (field == 0))
+}
+
+// Whether a quantity stands for its kind.
+fn quantity_stands(kind: u32, kw: u32) -> bool
+    ensures { result ≡ within (least_of kind) (most_of kind) kw }
+{
+    (least_kw(kind) <= kw) & (kw <= most_kw(kind))
+}
+
+// Whether a record keeps the rule of its kind, on a sheet of so many interties and holders.
 fn record_stands(key: u32, kw: u32, interties: u32, holders: u32) -> bool
     ensures { result ≡ record_stands interties holders key kw }
 {
@@ -24,34 +102,25 @@ fn record_stands(key: u32, kw: u32, interties: u32, holders: u32) -> bool
     let intertie = key::intertie(key);
     let rank = key::rank(key);
     let years = key::years(key);
-    let no_holder = holder == 0;
-    let some_holder = holder < holders;
-    let no_intertie = intertie == 0;
-    let some_intertie = intertie < interties;
-    let no_rank = rank == 0;
-    let some_rank = 1 <= rank;
-    let no_years = years == 0;
-    let some_years = (1 <= years) & (years <= MOST_YEARS);
-    let any_kw = kw <= MOST_KW;
-    let some_kw = (1 <= kw) & (kw <= MOST_KW);
-    let any_share = kw <= MOST_LOAD_SHARE;
-    match kind {
-        kinds::LIMIT => no_holder & some_intertie & no_rank & no_years & any_kw,
-        kinds::OUTSIDE_RIGHT => no_holder & some_intertie & no_rank & no_years & some_kw,
-        kinds::LOAD_SHARE => some_holder & no_intertie & no_rank & no_years & any_share,
-        kinds::EXISTING_CONTRACT..=kinds::PRE_RA_COMMITMENT => {
-            some_holder & some_intertie & no_rank & some_years & some_kw
-        }
-        kinds::NEW_USE_COMMITMENT => some_holder & some_intertie & some_rank & some_years & some_kw,
-        _ => false,
-    }
+    field_stands(names_holder(kind), holder < holders, holder)
+        & field_stands(names_intertie(kind), intertie < interties, intertie)
+        & field_stands(names_rank(kind), 1 <= rank, rank)
+        & field_stands(
+            names_years(kind),
+            (1 <= years) & (years <= MOST_YEARS),
+            years,
+        )
+        & quantity_stands(kind, kw)
 }
 
-// Whether each record of a sheet of `count` records keeps its rule.
-pub(crate) fn records_stand(sheet: &[u8], count: usize, interties: u32, holders: u32) -> bool
-    requires { Whole sheet.now count }
-    ensures { result ≡ each_stands sheet.now count interties holders }
+// Whether each record keeps its rule.
+pub(crate) fn records_stand(sheet: &[u8]) -> bool
+    requires { bad_length sheet.now ≡ false }
+    ensures { result ≡ records_stand sheet.now }
 {
+    let interties = words::intertie_count(sheet);
+    let holders = words::holder_count(sheet);
+    let count = words::record_count(sheet) as usize;
     let mut stand = true;
     let mut cursor = Cursor::first();
     loop {

@@ -1,11 +1,11 @@
 // The tables that the records fill. A record's slot goes by its kind, holder, intertie and rank, and is found for all of them
 // before the first is added. Records of no kind, and those of kinds 4 to 6 with a holder from 32 up, share the last slot.
-ghost use Rattle.std.specs.Prelude.{◌≡◌, ℕ, ◌+◌, ◌<◌, ◌^◌, length, replicate};
+ghost use Rattle.std.specs.Prelude.{◌≡◌, false, ℕ, ◌+◌, ◌<◌, ◌^◌, length, replicate};
 ghost use Rattle.base.specs.Choice.{pick};
 ghost use Rattle.base.specs.Words.{at};
 ghost use Rattle.base.specs.Limits.{most_records};
 ghost use Rattle.sheet_keys.specs.Key.{key_holders, key_interties, key_ranks};
-ghost use Rattle.sheet_records.specs.Refusal.{Whole};
+ghost use Rattle.sheet_records.specs.Refusal.{bad_length};
 ghost use Rattle.sheet_reading.specs.Tables.{slot, slot_of, slots, count_table, kw_table, intertie_table};
 ghost use Rattle.sheet_reading.specs.Workers.Adding.{add, SlotsOf};
 
@@ -13,7 +13,7 @@ use base::limits::MOST_RECORDS;
 use base::{kinds, limits};
 use sheet_keys::key;
 use sheet_records::cursor::{Cursor, Read};
-use sheet_records::reader;
+use sheet_records::{reader, words};
 
 // A holder's row has a slot for each intertie that a key can name, or for each rank.
 pub const HOLDER_INTERTIES: usize = key::INTERTIES;
@@ -95,11 +95,12 @@ fn slot_of(key: u32) -> u32
     )
 }
 
-// The slot of each record of a sheet of `count` records.
-pub(crate) fn find_slots(sheet: &[u8], count: usize, found: &mut [u32; MOST_RECORDS])
-    requires { Whole sheet.now count × (length found.old ≡ most_records) }
+// The slot of each record.
+pub(crate) fn find_slots(sheet: &[u8], found: &mut [u32; MOST_RECORDS])
+    requires { (bad_length sheet.now ≡ false) × (length found.old ≡ most_records) }
     ensures { SlotsOf sheet.now found.new }
 {
+    let count = words::record_count(sheet) as usize;
     let mut cursor = Cursor::first();
     loop {
         let read = reader::read_record(sheet, count, cursor.at);
@@ -128,18 +129,18 @@ fn add_at(slot: u32, quantity: u32, counts: &mut [u16; SLOTS], kw: &mut [u64; SL
 // Counts each record in cleared tables and adds its kilowatts, with its slot at hand.
 pub(crate) fn add_records(
     sheet: &[u8],
-    count: usize,
     found: &[u32; MOST_RECORDS],
     counts: &mut [u16; SLOTS],
     kw: &mut [u64; SLOTS],
 )
-    requires { Whole sheet.now count
+    requires { (bad_length sheet.now ≡ false)
         × SlotsOf sheet.now found.now
         × (counts.old ≡ replicate slots 0)
         × (kw.old ≡ replicate slots 0) }
     ensures { (counts.new ≡ count_table sheet.now)
         × (kw.new ≡ kw_table sheet.now) }
 {
+    let count = words::record_count(sheet) as usize;
     let mut cursor = Cursor::first();
     loop {
         let read = reader::read_record(sheet, count, cursor.at);
@@ -165,17 +166,13 @@ fn place_at(slot: u32, intertie: u32, interties: &mut [u16; SLOTS])
 }
 
 // Adds the intertie of each record to a cleared table.
-pub(crate) fn place_records(
-    sheet: &[u8],
-    count: usize,
-    found: &[u32; MOST_RECORDS],
-    interties: &mut [u16; SLOTS],
-)
-    requires { Whole sheet.now count
+pub(crate) fn place_records(sheet: &[u8], found: &[u32; MOST_RECORDS], interties: &mut [u16; SLOTS])
+    requires { (bad_length sheet.now ≡ false)
         × SlotsOf sheet.now found.now
         × (interties.old ≡ replicate slots 0) }
     ensures { interties.new ≡ intertie_table sheet.now }
 {
+    let count = words::record_count(sheet) as usize;
     let mut cursor = Cursor::first();
     loop {
         let read = reader::read_record(sheet, count, cursor.at);

@@ -2,4 +2,3 @@ pub mod BytesLaws
 pub mod OverLaws
 pub mod RefusalLaws
 pub mod ReadingLaws
-pub mod WalkPrelude

@@ -7,20 +7,20 @@ use crate::words::WORD_BYTES;
 use base::limits::{MOST_RECORDS, RECORD_BYTES, SHEET_HEADER_BYTES};
 
 // A record: its key, and its quantity in kilowatts.
-#[derive(Drop)]
+#[derive(Clone, Copy)]
 pub struct Record {
     pub key: u32,
     pub kw: u32,
 }
 
 // The place of the next record.
-#[derive(Drop)]
+#[derive(Clone, Copy)]
 pub struct Cursor {
     pub at: usize,
 }
 
 // What reading at a cursor finds: a record and the cursor past it, or the end.
-#[derive(Drop)]
+#[derive(Clone, Copy)]
 pub enum Read {
     Next(Record, Cursor),
     End,

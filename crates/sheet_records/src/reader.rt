@@ -8,11 +8,22 @@ use crate::cursor;
 use crate::cursor::Read;
 
 // A reader: the sheet, how many records it has, and the place of the next.
-#[derive(Drop)]
+#[derive(Clone, Copy)]
 pub struct Reader<'a> {
     pub sheet: &'a [u8],
     pub count: usize,
     pub place: usize,
+}
+
+// The reader of a sheet of `count` records that stands at a place.
+pub fn standing_at<'a>(sheet: &'a [u8], count: usize, place: usize) -> Reader<'a>
+    ensures { (result.sheet ≡ sheet.entry) × (result.count ≡ count) × (result.place ≡ place) }
+{
+    Reader {
+        sheet,
+        count,
+        place,
+    }
 }
 
 // The record where a reader stands and the place after it, or the end.
@@ -26,9 +37,5 @@ pub fn next<'a>(reader: Reader<'a>) -> Read
 pub fn read_record(sheet: &[u8], count: usize, place: usize) -> Read
     ensures { result ≡ read_of sheet.now count place }
 {
-    next(Reader {
-        sheet,
-        count,
-        place,
-    })
+    next(standing_at(sheet, count, place))
 }

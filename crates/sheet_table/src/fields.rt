@@ -14,21 +14,21 @@ use text::Number;
 const FIELDS: usize = 5;
 
 // A number and its fault.
-#[derive(Drop)]
+#[derive(Clone, Copy)]
 pub(crate) struct Checked {
     pub fault: u32,
     pub value: u32,
 }
 
 // The first fault of a line and its column, 0 and 0 where there is none.
-#[derive(Drop)]
+#[derive(Clone, Copy)]
 pub(crate) struct Flaw {
     pub fault: u32,
     pub column: usize,
 }
 
 // I and H, or the first fault.
-#[derive(Drop)]
+#[derive(Clone, Copy)]
 pub(crate) struct Sizes {
     pub flaw: Flaw,
     pub interties: u32,
@@ -36,7 +36,7 @@ pub(crate) struct Sizes {
 }
 
 // A record, or its first fault.
-#[derive(Drop)]
+#[derive(Clone, Copy)]
 pub(crate) struct Entry {
     pub flaw: Flaw,
     pub key: u32,

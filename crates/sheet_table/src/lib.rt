@@ -1,5 +1,7 @@
 // A sheet as comma-separated text, and back. Line 1 has I and H; each later line that is not empty
 // has a record's kind, holder, intertie, rank, years and kilowatts.
+#![tactic(auto)]
+
 pub mod faults;
 mod fields;
 mod kinds;
@@ -25,7 +27,7 @@ pub const TABLE_BYTES: usize = SIZES_BYTES + ROW_BYTES * MOST_RECORDS;
 
 // Fault 0 and the bytes of the sheet, or the first fault (`faults`) with its line and column, each from 1, and count 0.
 #[repr(C)]
-#[derive(Drop)]
+#[derive(Clone, Copy)]
 pub struct Converted {
     pub fault: u32,
     pub line: usize,

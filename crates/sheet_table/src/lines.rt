@@ -13,7 +13,7 @@ use base::limits::MOST_RECORDS;
 
 // How far a reading has come: the first fault with its line and column, or the lines and the records
 // that were read.
-#[derive(Drop)]
+#[derive(Clone, Copy)]
 pub(crate) struct Reading {
     pub fault: u32,
     pub line: usize,

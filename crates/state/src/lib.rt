@@ -1,4 +1,6 @@
 // The year's state: where its words stand, and how they are read and stored.
+#![tactic(auto)]
+
 pub mod layout;
 
 ghost use Rattle.std.specs.Prelude.{◌≡◌, ℕ, ◌+◌, set};

@@ -1,14 +1,12 @@
 -- What the tests of a row and of a table of the pairs say.
-use Prim.Native.Nat.{ℕ, ◌+◌, ◌*◌, ◌≤◌, ◌<◌}
-use mathlib.Core.Path.{◌≡◌, sym, ◌∙◌}
+use Prim.Native.Nat.{ℕ, ◌≤◌, ◌<◌}
+use mathlib.Core.Path.{◌≡◌, ◌∙◌}
 use mathlib.Core.List.{List}
 use lib.ListN.{length}
-use mathlib.Core.Bool.{Bool, true, false, ◌&&◌}
-use native.Mathlib.Omega.{arith}
+use mathlib.Core.Bool.{true, ◌&&◌}
 use lib.Dec.{leb, ltb}
 use borrow.Author.Tests.{leb-true, ltb-true, le-leb, lt-ltb}
-use Rattle.base.proofs.ChoiceLaws.{and_left, and_right, pick_true, pick-false}
-use Rattle.base.specs.Choice.{pick}
+use Rattle.base.proofs.ChoiceLaws.{and_left, and_right, pick_true}
 use Rattle.base.specs.Limits.{state_words}
 use Rattle.state_rows.specs.Rows.{fill_pairs, fit_row, fit_field, fit_pairs, cleared_pairs}
 
@@ -87,28 +85,3 @@ pub cleared-pairs : (s after : List ℕ) (field m n : ℕ) → after ≡ cleared
     state_words ≤ length s → field ≤ 300 → m ≤ 32 → n ≤ 48 → after ≡ fill_pairs field m n (λ h i. 0) s
 cleared-pairs s after field m n e long low few narrow =
     e ∙ pick_true _ _ _ (field_fits (length s) field m n (record { long = long; low = low; few = few; narrow = narrow }))
-
--- what a worker asks, from the test that was made
-module _ (b : Bool) (words : ℕ) where
-  pub row_room : (row n values : ℕ) → b ≡ fit_row words row n values → b ≡ true → (state_words ≤ words) × (row < 333) × (n ≤ 48) × (0 + n ≤ values)
-  row_room row n values e t =
-      let f = fits-row words row n values (sym e ∙ t) in
-      (f.long, f.whole, f.narrow, omega (arith, f.filled))
-
-  pub field_room : (field m n : ℕ) → b ≡ fit_field words field m n → b ≡ true → (state_words ≤ words) × (field + m ≤ 333) × (n ≤ 48)
-  field_room field m n e t =
-      let f = fits-field words field m n (sym e ∙ t) in
-      (f.long, omega (arith, f.low, f.few), f.narrow)
-
-  pub pairs-room : (field m n values : ℕ) → b ≡ fit_pairs words field m n values → b ≡ true →
-      (state_words ≤ words) × (field + m ≤ 333) × (n ≤ 48) × (48 * m ≤ values)
-  pairs-room field m n values e t =
-      let f = fits-pairs words field m n values (sym e ∙ t) in
-      (f.long, omega (arith, f.low, f.few), f.narrow, omega (arith, f.few, f.filled))
-
--- what is done by the test: all of it, or nothing
-pub fitting : (b test : Bool) (r x y : List ℕ) → b ≡ test → b ≡ true → r ≡ x → r ≡ pick test x y
-fitting b test r x y e t done = done ∙ sym (pick_true test x y (sym e ∙ t))
-
-pub unfit : (b test : Bool) (x y : List ℕ) → b ≡ test → b ≡ false → y ≡ pick test x y
-unfit b test x y e f = sym (pick-false test x y (sym e ∙ f))

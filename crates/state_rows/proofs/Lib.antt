@@ -1,3 +1,2 @@
 pub mod RowLaws
-pub mod LoopLaws
 pub mod FitLaws

@@ -1,6 +1,6 @@
 -- What whole rows change and what they leave.
 use Prim.Native.Nat.{ℕ, zero, suc, ◌+◌, ◌≤◌, ◌<◌}
-use mathlib.Core.Path.{◌≡◌, refl, sym, ap, ◌∙◌}
+use mathlib.Core.Path.{◌≡◌, refl, ap, ◌∙◌}
 use mathlib.Core.List.{List}
 use mathlib.Core.Logic.{◌≢◌, ◌⊎◌, inl, inr, ⊎_elim}
 use native.Mathlib.Nat.{not-suc-le-zero, le_step, lt-suc_self}
@@ -11,7 +11,7 @@ use Rattle.base.specs.Words.{at}
 use Rattle.base.proofs.SumLaws.{below_suc}
 use Rattle.base.specs.Limits.{state_words}
 use Rattle.state.specs.Layout.{place}
-use Rattle.state.proofs.FrameLaws.{at_stored, at-other-row, at-other-column, SameRows, same_refl, same-trans}
+use Rattle.state.proofs.FrameLaws.{at_stored, at-other-row, at-other-column, SameRows}
 use Rattle.state_rows.specs.Rows.{fill_row, fill_pairs}
 
 pub length-fill_row : (row n : ℕ) (f : ℕ → ℕ) (s : List ℕ) → length (fill_row row n f s) ≡ length s

@@ -1,11 +1,12 @@
 // Whole rows of the year's state, written at once. Apart from state for the prover's time.
+#![tactic(auto)]
+
 ghost use Rattle.std.specs.Prelude.{◌≡◌, ℕ, ◌+◌, ◌*◌, ◌≤◌, ◌<◌, length};
 ghost use Rattle.base.specs.Limits.{state_words, most_interties};
-ghost use Rattle.base.specs.Choice.{pick};
-ghost use Rattle.state.specs.Layout.{row_words, whole_rows};
+ghost use Rattle.base.specs.Words.{at};
+ghost use Rattle.state.specs.Layout.{row_words, place, whole_rows};
 ghost use Rattle.state_rows.specs.Rows.{fill_row, fill_pairs, low32, fit_row, fit_field, fit_pairs};
 ghost use Rattle.state_rows.specs.Rows.{stored_row, stored_pairs, raised_pairs, cleared_pairs};
-ghost use Rattle.state_rows.specs.Workers.Written.{row_word, pair_word};
 
 use base::limits::{MOST_HOLDERS, MOST_INTERTIES, MOST_PAIRS, STATE_WORDS};
 use state::layout::{LAST_ROW, ROW_WORDS, WHOLE_ROWS};
@@ -13,33 +14,16 @@ use state::layout::{LAST_ROW, ROW_WORDS, WHOLE_ROWS};
 // 2^32: how many values a word has.
 const WORD_VALUES: u64 = 4_294_967_296;
 
-// What a word keeps when it is written: all where it is raised, else nothing.
-fn kept(raise: bool, word: u32) -> u32
-    ensures { result ≡ pick {A = ℕ} raise word 0 }
-{
-    if raise {
-        return word;
-    }
-    0
-}
-
-// A word raised by a value, both in 32 bits.
-fn raised(word: u32, value: u64) -> u32
-    ensures { result ≡ low32 (word + low32 value) }
-{
-    (((word as u64) + value % WORD_VALUES) % WORD_VALUES) as u32
-}
-
-// Writes values, from one of them on, over the first columns of a row, or raises these by them.
-fn write_row(state: &mut [u32], row: usize, count: usize, values: &[u64], from: usize, raise: bool)
+// Writes values, from one of them on, over the first columns of a row.
+fn write_row(state: &mut [u32], row: usize, count: usize, values: &[u64], from: usize)
     requires { (state_words ≤ length state.old) × (row < whole_rows) × (count ≤ row_words) × (from + count ≤ length values.now) }
-    ensures { let s = state.old in let values = values.entry.now in
-        state.new ≡ fill_row row count (row_word raise s row values from) s }
+    ensures { state.new
+        ≡ fill_row row count (λ (c : ℕ). low32 (at values.now (from + c))) state.old }
 {
     let first = ROW_WORDS * row;
     let mut column = 0;
     while column < count {
-        state[first + column] = raised(kept(raise, state[first + column]), values[from + column]);
+        state[first + column] = (values[from + column] % WORD_VALUES) as u32;
         column += 1;
     }
 }
@@ -57,28 +41,20 @@ pub fn store_row(state: &mut [u32], row: usize, count: usize, values: &[u64])
     ensures { state.new ≡ stored_row row count values.now state.old }
 {
     if fits_row(state.len(), row, count, values.len()) {
-        write_row(state, row, count, values, 0, false);
+        write_row(state, row, count, values, 0);
     }
 }
 
-// Writes the rows of a table, 48 values a row, over the first columns of as many rows, or raises these by them.
-fn write_rows(
-    state: &mut [u32],
-    field: usize,
-    holders: usize,
-    interties: usize,
-    values: &[u64],
-    raise: bool,
-)
+// Writes the rows of a table, 48 values a row, over the first columns of as many rows.
+fn write_rows(state: &mut [u32], field: usize, holders: usize, interties: usize, values: &[u64])
     requires { (state_words ≤ length state.old) × (field + holders ≤ whole_rows) × (interties ≤ most_interties)
         × (row_words * holders ≤ length values.now) }
-    ensures { let s = state.old in let table = values.now in
-        state.new ≡ fill_pairs field holders interties (pair_word raise s field table) s }
+    ensures { state.new
+        ≡ fill_pairs field holders interties (λ (h i : ℕ). low32 (at values.now (place h i))) state.old }
 {
     let mut holder = 0;
     while holder < holders {
-        let from = ROW_WORDS * holder;
-        write_row(state, field + holder, interties, values, from, raise);
+        write_row(state, field + holder, interties, values, ROW_WORDS * holder);
         holder += 1;
     }
 }
@@ -112,7 +88,42 @@ pub fn store_pairs(
     ensures { state.new ≡ stored_pairs field holders interties values.now state.old }
 {
     if fits_pairs(state.len(), field, holders, interties, values.len()) {
-        write_rows(state, field, holders, interties, values, false);
+        write_rows(state, field, holders, interties, values);
+    }
+}
+
+// A word raised by a value, both in 32 bits.
+fn raised(word: u32, value: u64) -> u32
+    ensures { result ≡ low32 (word + low32 value) }
+{
+    (((word as u64) + value % WORD_VALUES) % WORD_VALUES) as u32
+}
+
+// Raises the first columns of a row by values, from one of them on.
+fn raise_row(state: &mut [u32], row: usize, count: usize, values: &[u64], from: usize)
+    requires { (state_words ≤ length state.old) × (row < whole_rows) × (count ≤ row_words) × (from + count ≤ length values.now) }
+    ensures { let s = state.old in state.new
+        ≡ fill_row row count (λ (c : ℕ). low32 (at s (place row c) + low32 (at values.now (from + c)))) s }
+{
+    let first = ROW_WORDS * row;
+    let mut column = 0;
+    while column < count {
+        state[first + column] = raised(state[first + column], values[from + column]);
+        column += 1;
+    }
+}
+
+// Raises the first columns of as many rows by the rows of a table, 48 values a row.
+fn raise_rows(state: &mut [u32], field: usize, holders: usize, interties: usize, values: &[u64])
+    requires { (state_words ≤ length state.old) × (field + holders ≤ whole_rows) × (interties ≤ most_interties)
+        × (row_words * holders ≤ length values.now) }
+    ensures { let s = state.old in let table = values.now in state.new
+        ≡ fill_pairs field holders interties (λ (h i : ℕ). low32 (at s (place (field + h) i) + low32 (at table (place h i)))) s }
+{
+    let mut holder = 0;
+    while holder < holders {
+        raise_row(state, field + holder, interties, values, ROW_WORDS * holder);
+        holder += 1;
     }
 }
 
@@ -128,7 +139,7 @@ pub fn raise_pairs(
     ensures { state.new ≡ raised_pairs field holders interties values.now state.old }
 {
     if fits_pairs(state.len(), field, holders, interties, values.len()) {
-        write_rows(state, field, holders, interties, values, true);
+        raise_rows(state, field, holders, interties, values);
     }
 }
 

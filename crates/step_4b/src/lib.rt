@@ -1,5 +1,7 @@
 // Step 4b for one holder: its New Use commitments by rising rank, each covered first and then cut to the allowance left
 // (docs/RULES.md, "Opening").
+#![tactic(auto)]
+
 ghost use Rattle.std.specs.Prelude.{◌≡◌, true, ◌+◌, ◌-◌, ◌^◌, ◌≤◌, ◌<◌, min, length, set};
 ghost use Rattle.base.specs.Words.{at};
 ghost use Rattle.step_4b.specs.NewUse.{next_rank, new_use};
@@ -57,8 +59,8 @@ fn use_allowance(rest: u64, intertie: usize, allowance: u64, kept: &mut [u64]) -
 // Goes on by the record of a rank; hands back the allowance left. A rank without kW changes nothing.
 fn keep_rank(kw: u64, intertie: usize, allowance: u64, cover: &mut [u64], kept: &mut [u64]) -> u64
     requires { at kept.old intertie + allowance < 2 ^ 64 }
-    ensures { next_rank kw intertie (record { cover = cover.entry.now; kept = kept.old; allowance = allowance })
-        ≡ record { cover = cover.exit.now; kept = kept.new; allowance = result } }
+    ensures { next_rank kw intertie (record { cover = cover.old; kept = kept.old; allowance = allowance })
+        ≡ record { cover = cover.new; kept = kept.new; allowance = result } }
 {
     if kw == 0 {
         return allowance;
@@ -109,8 +111,8 @@ pub fn keep_new_use(
     cover: &mut [u64],
     kept: &mut [u64],
 ) -> u64
-    ensures { new_use kw.now interties.now allowance cover.entry.now (length kept.old)
-        ≡ record { cover = cover.exit.now; kept = kept.new; allowance = result } }
+    ensures { new_use kw.now interties.now allowance cover.old (length kept.old)
+        ≡ record { cover = cover.new; kept = kept.new; allowance = result } }
 {
     vectors::clear(kept);
     let ranks = shorter(kw.len(), interties.len());

@@ -1,5 +1,7 @@
 // Step 5: the import capability that remains, assigned by load share to the holders that haven't received their share of
 // it in Steps 3 and 4 (docs/RULES.md, "Opening").
+#![tactic(auto)]
+
 ghost use Rattle.std.specs.Prelude.{◌≡◌, ◌&&◌, ◌-◌, ◌*◌, ◌/◌, length, leb, eqb};
 ghost use Rattle.base.specs.Choice.{pick};
 ghost use Rattle.base.specs.Limits.{most_held_kw, most_load_share};
@@ -59,7 +61,7 @@ fn if_marked(own: u8, mark: u8, number: u64) -> u64
 // What the holders with this mark have together.
 fn sum_marked(mark: u8, marks: &[u8], numbers: &[u64]) -> u64
     requires { Addends marks.now numbers.now }
-    ensures { let numbers = numbers.entry.now in result ≡ together (length numbers) mark marks.now numbers }
+    ensures { let numbers = numbers.now in result ≡ together (length numbers) mark marks.now numbers }
 {
     let mut sum = 0;
     let mut i = 0;
@@ -93,7 +95,7 @@ fn newly_excluded(mark: u8, held: u64, load: u64, gross: u64, all: u64) -> u8
 // Makes one round: excludes its holders together and hands back how many they are.
 fn exclude_round(total: u64, held: &[u64], loads: &[u64], marks: &mut [u8]) -> u8
     requires { Accepted total held.now loads.now × Marks (length held.now) marks.old }
-    ensures { let held = held.entry.now in let loads = loads.entry.now in let before = marks.old in
+    ensures { let held = held.now in let loads = loads.now in let before = marks.old in
         (result ≡ newly_excluded total held loads before) × (marks.new ≡ round_marks total held loads before) }
 {
     let gross = gross_remaining(total, held, marks);

@@ -1,7 +1,6 @@
 -- Inputs that agree in what the steps read give the same results.
-use Prim.Native.Nat.{ℕ, ◌+◌, ◌-◌, ◌*◌, ◌/◌, ◌≤◌, ◌<◌}
-use mathlib.Core.Path.{◌≡◌, refl, sym, ap, ◌∙◌}
-use mathlib.Core.List.{List}
+use Prim.Native.Nat.{ℕ, ◌+◌, ◌-◌, ◌≤◌, ◌<◌}
+use mathlib.Core.Path.{◌≡◌, ap, ◌∙◌}
 use native.Mathlib.Omega.{arith}
 use Rattle.base.specs.Sums.{sum_to}
 use Rattle.base.specs.Words.{at, tab}
@@ -10,8 +9,7 @@ use Rattle.base.proofs.WordLaws.{tab-same}
 use Rattle.share_out.specs.Rule.{Outcome}
 use Rattle.intertie_shares.specs.Rule.{among_holders}
 use Rattle.intertie_shares.proofs.HolderLaws.{among_same}
-use Rattle.step_5.specs.Shares.{step5_shares}
-use Rattle.step_4b.specs.NewUse.{NewUse, new_use}
+use Rattle.step_4b.specs.NewUse.{NewUse}
 use Rattle.steps.specs.Inputs.{Inputs}
 use Rattle.steps.specs.Step2.{available, available_total, all_load_shares, load_share_quantity}
 use Rattle.steps.specs.Step4a.{existing_on, left_by_step3, pre_ra_claim, pre_ra_shared, pre_ra_granted, left_by_step4a}

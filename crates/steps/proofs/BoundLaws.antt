@@ -1,17 +1,14 @@
 -- What Steps 1 to 7 give is within its ranges, for every sheet that keeps the rules.
-use Prim.Native.Nat.{ℕ, ◌+◌, ◌-◌, ◌*◌, ◌/◌, ◌≤◌, ◌<◌, zero-le}
-use mathlib.Core.Path.{◌≡◌, refl, sym, ap, ◌∙◌}
+use Prim.Native.Nat.{ℕ, ◌+◌, ◌≤◌, ◌<◌}
+use mathlib.Core.Path.{◌≡◌, sym, ap, ◌∙◌}
 use mathlib.Core.List.{List}
-use native.Mathlib.Nat.{le_trans, le_refl, mul-le-mul_right}
+use native.Mathlib.Nat.{le_trans, mul-le-mul_right}
 use native.Mathlib.Omega.{arith}
 use lib.ListN.{length}
 use Rattle.base.specs.Sums.{sum_to}
 use Rattle.base.specs.Words.{at, tab}
-use Rattle.base.specs.declared.Answer.{Answer}
-use Rattle.base.proofs.SumLaws.{sum_to-same, sum_to-le, sum_to-add, sum_to-sub, sum_to-bound, sum_to-term}
+use Rattle.base.proofs.SumLaws.{sum_to-same, sum_to-add, sum_to-bound, sum_to-term}
 use Rattle.base.proofs.WordLaws.{at-tab, length-tab}
-use Rattle.share_out.specs.Rule.{Outcome}
-use Rattle.intertie_shares.specs.Rule.{among_holders}
 use Rattle.intertie_shares.proofs.HolderLaws.{Kept, kept}
 use Rattle.step_5.specs.Shares.{step5_shares}
 use Rattle.step_5.proofs.Promise as Step5

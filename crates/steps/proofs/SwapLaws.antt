@@ -1,9 +1,8 @@
 -- A sum over holders of sums over interties is the sum the other way round.
 use Prim.Native.Nat.{ℕ, zero, suc, ◌+◌}
 use mathlib.Core.Path.{◌≡◌, refl, sym, ap, ◌∙◌}
-use native.Mathlib.Omega.{arith}
 use Rattle.base.specs.Sums.{sum_to}
-use Rattle.base.proofs.SumLaws.{sum_to-zero, sum_to-suc, sum_to-add, sum_to-zeros}
+use Rattle.base.proofs.SumLaws.{sum_to-add, sum_to-zeros}
 
 pub sum_to-swap : (m n : ℕ) (f : ℕ → ℕ → ℕ) → sum_to m (λ h. sum_to n (λ i. f h i)) ≡ sum_to n (λ i. sum_to m (λ h. f h i))
 unfolding sum_to

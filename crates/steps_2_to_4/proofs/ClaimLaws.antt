@@ -10,7 +10,7 @@ use borrow.Rule.Slice.PartMut.{mid_of, mid_len}
 use Rattle.base.specs.Sums.{sum_to}
 use Rattle.base.specs.Words.{at, tab}
 use Rattle.base.proofs.SumLaws.{sum_to-add}
-use Rattle.base.proofs.WordLaws.{at-tab, length-tab, tab-same}
+use Rattle.base.proofs.WordLaws.{at-tab, length-tab}
 use Rattle.sheet_reading.specs.Tables.{existing_slot, pre_ra_slot, new_use_slot}
 use Rattle.step_4b.specs.NewUse.{NewUse, new_use}
 use Rattle.share_out.specs.Rule.{Outcome}

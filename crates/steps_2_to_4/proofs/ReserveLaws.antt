@@ -1,20 +1,19 @@
 -- Steps 3 to 4b in order: what is left on each intertie, P and N.
-use Prim.Native.Nat.{ℕ, ◌+◌, ◌-◌, ◌*◌, ◌≤◌, ◌<◌}
-use mathlib.Core.Path.{◌≡◌, refl, sym, ap, ◌∙◌}
+use Prim.Native.Nat.{ℕ, ◌+◌, ◌-◌, ◌≤◌, ◌<◌}
+use mathlib.Core.Path.{◌≡◌, refl, ap, ◌∙◌}
 use mathlib.Core.List.{List}
-use native.Mathlib.Nat.{zero-add}
 use native.Mathlib.Omega.{arith}
 use lib.ListN.{length}
 use Rattle.base.specs.Sums.{sum_to}
 use Rattle.base.specs.Words.{at, tab}
 use Rattle.base.proofs.SumLaws.{sum_to-same}
-use Rattle.base.proofs.WordLaws.{tab-same, length-tab}
+use Rattle.base.proofs.WordLaws.{tab-same}
 use Rattle.share_out.specs.Rule.{Outcome}
 use Rattle.intertie_shares.specs.Pairs.{fill_table}
 use Rattle.intertie_shares.specs.Rule.{grant_on}
 use Rattle.intertie_shares.proofs.HolderLaws.{among_same}
 use Rattle.intertie_shares.proofs.PairLaws.{at-fill_table, fill_table-same}
-use Rattle.step_4b.specs.NewUse.{NewUse, new_use}
+use Rattle.step_4b.specs.NewUse.{new_use}
 use Rattle.sheet_reading.specs.Tables.{existing_slot, pre_ra_slot, new_use_slot}
 use Rattle.steps.specs.Inputs.{Inputs}
 use Rattle.steps.specs.Tables.{of_tables}
@@ -25,7 +24,6 @@ use Rattle.steps.specs.Step5to7.{unassigned}
 use Rattle.steps.proofs.BoundLaws.{reserved-parts}
 use Rattle.intertie_shares.specs.Pairs.{pair_at}
 use Rattle.steps_2_to_4.specs.Workers.Vectors.{Row, Pairs, kept_from, SharedOver}
-use Rattle.steps_2_to_4.specs.Workers.Reserve.{Reserving, Reserved}
 use Rattle.base.proofs.VectorLaws.{lowered, at-lowered}
 
 module _ (kw ties pools loads quantities : List ℕ) (few : length pools ≤ 48) (small : length loads ≤ 32)
@@ -44,7 +42,7 @@ module _ (kw ties pools loads quantities : List ℕ) (few : length pools ≤ 48)
   module _ (first empty granted : List ℕ) (first-is : first ≡ lowered y.existing pools (length loads)) (size : length first ≡ length pools) (room : length empty ≡ 1536)
       (shared : SharedOver first loads (λ h i. at kw (pre_ra_slot h i) - at kw (existing_slot h i)) empty granted) where
     -- P
-    pre-ra-are : granted ≡ fill_table (length pools) (length loads) (pre_ra_granted y) empty
+    pub pre-ra-are : granted ≡ fill_table (length pools) (length loads) (pre_ra_granted y) empty
     unfolding pre_ra_granted pre_ra_shared pre_ra_claim
     pre-ra-are =
         shared
@@ -90,7 +88,7 @@ module _ (kw ties pools loads quantities : List ℕ) (few : length pools ≤ 48)
           (bare-room : length bare ≡ 1536)
           (shared-4b : SharedOver second loads (λ h i. at (kept_from kw ties (length second) (at quantities h) granted h).kept i) bare kept) where
         -- N
-        new-use-are : kept ≡ fill_table (length pools) (length loads) (new_use_granted y) bare
+        pub new-use-are : kept ≡ fill_table (length pools) (length loads) (new_use_granted y) bare
         unfolding new_use_granted new_use_shared
         new-use-are =
             shared-4b
@@ -109,8 +107,7 @@ module _ (kw ties pools loads quantities : List ℕ) (few : length pools ≤ 48)
             ∙ at-fill_table (length loads) (new_use_granted y) bare (length pools) h i k l small few (omega arith)
 
         -- what stays unassigned
-        unassigned-are : (after : List ℕ) → after ≡ lowered (λ h i. at kept (pair_at h i)) second (length loads) →
-            after ≡ tab (length pools) (unassigned y)
+        pub unassigned-are : (after : List ℕ) → after ≡ lowered (λ h i. at kept (pair_at h i)) second (length loads) → after ≡ tab (length pools) (unassigned y)
         unfolding unassigned left_by_step4a left_by_step3
         unassigned-are after e =
             e
@@ -120,33 +117,3 @@ module _ (kw ties pools loads quantities : List ℕ) (few : length pools ≤ 48)
             let same : sum_to (length loads) (λ h. at kept (pair_at h i)) ≡ sum_to (length loads) (λ h. new_use_granted y h i) =
             sum_to-same (length loads) _ _ (λ h k. new-use-is h i k l) in
             omega (arith, left4a second second_is i l, reserved-parts y i))
-
--- rows of the pairs, as the code counts them from 0
-pairs-off : (t first after : List ℕ) (m : ℕ) → after ≡ lowered (λ h i. at t (0 + 48 * h + i)) first m →
-    after ≡ lowered (λ h i. at t (pair_at h i)) first m
-pairs-off t first after m e = simp zero-add at e
-
--- Steps 3 to 4b together
-pub reserved-are : (kw ties loads quantities pools empty bare : List ℕ) → Reserving kw ties loads quantities pools empty bare →
-    (first granted second kept after : List ℕ) →
-    first ≡ lowered (λ h i. at kw (existing_slot h i)) pools (length loads) →
-    SharedOver first loads (λ h i. at kw (pre_ra_slot h i) - at kw (existing_slot h i)) empty granted →
-    second ≡ lowered (λ h i. at granted (0 + 48 * h + i)) first (length loads) →
-    SharedOver second loads (λ h i. at (kept_from kw ties (length second) (at quantities h) granted h).kept i) bare kept →
-    after ≡ lowered (λ h i. at kept (0 + 48 * h + i)) second (length loads) →
-    Reserved kw ties loads pools empty bare after granted kept
-reserved-are kw ties loads quantities pools empty bare p first granted second kept after e1 g1 e2 g2 e3 =
-    let n1 : length first ≡ length pools = ap length e1 ∙ length-tab (length pools) _ in
-    let n2 : length second ≡ length pools = ap length e2 ∙ length-tab (length first) _ ∙ n1 in
-    let s2 = pairs-off granted first second (length loads) e2 in
-    record {
-      remains =
-          unassigned-are kw ties pools loads quantities p.few p.small p.start p.weigh first empty granted e1
-          n1 p.pre-ra-size g1
-          p.quantity second bare kept s2 n2 p.new-use-size g2 after (pairs-off kept second after (length loads) e3);
-      granted =
-          pre-ra-are kw ties pools loads quantities p.few p.small p.start p.weigh first empty granted e1 n1 p.pre-ra-size g1;
-      kept =
-          new-use-are kw ties pools loads quantities p.few p.small p.start p.weigh first empty granted e1 n1 p.pre-ra-size g1
-          p.quantity second bare kept s2 n2 p.new-use-size g2;
-    }

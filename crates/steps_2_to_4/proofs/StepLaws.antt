@@ -1,22 +1,21 @@
 -- Step 2 as the code finds it, and what each step hands to the next.
 use Prim.Native.Nat.{ℕ, ◌+◌, ◌-◌, ◌*◌, ◌/◌, ◌%◌, ◌^◌, ◌≤◌, ◌<◌}
-use mathlib.Core.Path.{◌≡◌, refl, sym, ap, ◌∙◌}
+use mathlib.Core.Path.{◌≡◌, sym, ap, ◌∙◌}
 use mathlib.Core.Bool.{Bool, true, false, ◌&&◌, ◌||◌, true≢false}
 use mathlib.Core.List.{List, ◌++◌}
 use native.Mathlib.Nat.{zero-add}
 use native.Mathlib.Omega.{arith}
 use lib.Dec.{leb, ltb}
-use lib.ListN.{length, take, drop, replicate, length-replicate}
+use lib.ListN.{length, take, drop}
 use lib.Seq.{length-take-le}
 use borrow.Author.Tests.{leb-true, le-leb, ltb-false, le-ltb}
 use borrow.Rule.Slice.PartMut.{mid_of, mid_len}
 use Rattle.base.specs.Sums.{sum_to, all_to}
 use Rattle.base.specs.Words.{at, tab, fill}
-use Rattle.base.specs.Choice.{pick}
 use Rattle.base.proofs.ChoiceLaws.{pick-by, pick_true, pick-false, and_left, and_right, and_both, or_left, or_right}
 use Rattle.base.proofs.SumLaws.{sum_to-same, sum_to-bound, all_to-each, all_to-all, all_to-same}
 use Rattle.base.proofs.WordLaws.{at-tab, length-tab, tab-same, tab-at, fill-front, fill-same}
-use Rattle.base.proofs.VectorLaws.{at_mid, sum-whole, all-front, all-part}
+use Rattle.base.proofs.VectorLaws.{at_mid, sum-whole}
 use Rattle.intertie_shares.specs.Pairs.{fill_table}
 use Rattle.sheet_reading.specs.Tables.{limit_slot, outside_slot, load_share_slot}
 use Rattle.steps.specs.Inputs.{Inputs}
@@ -29,7 +28,7 @@ use Rattle.steps_2_to_4.specs.Workers.Vectors.{Row}
 use Rattle.steps_2_to_4.specs.Workers.Step2.{Step2Given, Step2Taken}
 use Rattle.steps_2_to_4.specs.Workers.Reserve.{Reserving, Reserved}
 use Rattle.steps_2_to_4.specs.Workers.Steps.{RowsGiven, RowsTaken, TablesGiven, TablesTaken}
-use Rattle.steps_2_to_4.specs.Reserved.{Outcome, fit_tables, reserved}
+use Rattle.steps_2_to_4.specs.Reserved.{fit_tables, reserved}
 
 -- Step 2
 module _ (kw loads pools₀ quantities₀ : List ℕ) (g : Step2Given kw loads pools₀ quantities₀) where
@@ -236,15 +235,11 @@ module _ (kw : List ℕ) (I H : ℕ) where
       (all_to-all H (λ h. leb (at kw (load_share_slot h)) 100000000) (λ h l. le-leb (at kw (load_share_slot h)) 100000000 (r.load-shares h l))))
 
   -- the code finds it in two parts
-  pub fit-by-parts : (limits loads : Bool) → length kw ≡ 12481 → ltb 48 I || ltb 32 H ≡ false →
-      limits ≡ all_to (length (take I kw)) (λ c. leb (at (take I kw) c) 20000000) →
-      loads ≡ all_to (length (mid_of 128 (128 + H - 128) kw)) (λ c. leb (at (mid_of 128 (128 + H - 128) kw) c) 100000000) →
-      limits && loads ≡ fit_tables kw I H
-  fit-by-parts limits loads long f a b =
-      let z = sizes-small I H f in
-      let first : limits ≡ limits_hold = a ∙ all-front I kw (λ k. leb k 20000000) (omega (arith, z.few)) in
-      let second : loads ≡ loads_hold = b ∙ all-part 128 (128 + H) H kw (λ k. leb k 100000000) refl (omega (arith, z.small)) in
-      rw (first, second) (sym (pick-false _ _ _ f))
+  pub fit-by-parts : (limits loads : Bool) → ltb 48 I || ltb 32 H ≡ false → limits ≡ all_to I (λ i. leb (at kw (0 + i)) 20000000) →
+      loads ≡ loads_hold → limits && loads ≡ fit_tables kw I H
+  fit-by-parts limits loads f a b =
+      let same : all_to I (λ i. leb (at kw (0 + i)) 20000000) ≡ limits_hold = all_to-same I _ _ (λ i l. ap (λ j. leb (at kw j) 20000000) (zero-add i)) in
+      rw (a, b, same) (sym (pick-false _ _ _ f))
 
 -- the call by cases: nothing written, or Steps 2 to 4b
 module _ (kw ties : List ℕ) (I H : ℕ) (quantities left pre_ra new_use : List ℕ) where

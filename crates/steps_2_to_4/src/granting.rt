@@ -7,8 +7,7 @@ ghost use Rattle.steps_2_to_4.specs.Workers.Vectors.{kept_from, SharedOver};
 ghost use Rattle.steps_2_to_4.specs.Workers.Reserve.{Reserving, Reserved};
 
 use super::{claims, vectors};
-use base::limits::{MOST_INTERTIES, MOST_PAIRS};
-use sheet_reading::tables::{EXISTING, HOLDER_INTERTIES};
+use base::limits::MOST_PAIRS;
 
 // Step 4a: shares out what Step 3 left on each intertie over the Pre-RA claims.
 pub(super) fn grant_pre_ra(kw: &[u64], pools: &[u64], loads: &[u64], granted: &mut [u64])
@@ -62,9 +61,9 @@ pub(super) fn steps_3_and_4(
         pre_ra.old new_use.old pools.new pre_ra.new new_use.new }
 {
     let holders = loads.len();
-    vectors::take_off_rows(kw, EXISTING, HOLDER_INTERTIES, holders, pools);
+    vectors::take_off_existing(kw, holders, pools);
     grant_pre_ra(kw, pools, loads, pre_ra);
-    vectors::take_off_rows(pre_ra, 0, MOST_INTERTIES, holders, pools);
+    vectors::take_off_holders(pre_ra, holders, pools);
     grant_new_use(kw, ties, pools, loads, quantities, pre_ra, new_use);
-    vectors::take_off_rows(new_use, 0, MOST_INTERTIES, holders, pools);
+    vectors::take_off_holders(new_use, holders, pools);
 }

@@ -1,30 +1,45 @@
 // Steps 2 to 4b carried out on the tables of a sheet: P and N of every pair, and what stays unassigned
 // (docs/RULES.md, "Opening"). Apart from opening for the prover's time.
+#![tactic(auto)]
+
 mod claims;
 mod granting;
 mod step_2;
 mod vectors;
 
-ghost use Rattle.std.specs.Prelude.{◌≡◌, length};
+ghost use Rattle.std.specs.Prelude.{◌≡◌, ℕ, ◌+◌, ◌≤◌, leb, length};
+ghost use Rattle.base.specs.Sums.{all_to};
+ghost use Rattle.base.specs.Words.{at};
 ghost use Rattle.sheet_reading.specs.Tables.{slots};
 ghost use Rattle.steps_2_to_4.specs.Workers.Steps.{TablesGiven, TablesTaken, RowsGiven, RowsTaken};
 ghost use Rattle.steps_2_to_4.specs.Reserved.{fit_tables, reserved};
 
 use base::limits::{MOST_HOLDERS, MOST_INTERTIES, MOST_KW, MOST_LOAD_SHARE, MOST_PAIRS};
-use base::vectors::all_within;
 use sheet_reading::tables::{LOAD_SHARES, SLOTS};
 
+// Whether some numbers of a table, from one of them on, are all within a most.
+fn all_within(kw: &[u64; SLOTS], from: usize, count: usize, most: u64) -> bool
+    requires { from + count ≤ slots }
+    ensures { result ≡ all_to count (λ (c : ℕ). leb (at kw.now (from + c)) most) }
+{
+    let mut hold = true;
+    let mut c = 0;
+    while c < count {
+        hold = hold & (kw[from + c] <= most);
+        c += 1;
+    }
+    hold
+}
+
 // Whether sizes, limits and load shares are in range.
-fn fit_tables(kw: &[u64], interties: usize, holders: usize) -> bool
-    requires { length kw.now ≡ slots }
+fn fit_tables(kw: &[u64; SLOTS], interties: usize, holders: usize) -> bool
     ensures { result ≡ fit_tables kw.now interties holders }
 {
     if (MOST_INTERTIES < interties) | (MOST_HOLDERS < holders) {
         return false;
     }
-    let end = LOAD_SHARES + holders;
-    let limits = all_within(&kw[..interties], MOST_KW);
-    limits & all_within(&kw[LOAD_SHARES..end], MOST_LOAD_SHARE)
+    let limits = all_within(kw, 0, interties, MOST_KW);
+    limits & all_within(kw, LOAD_SHARES, holders, MOST_LOAD_SHARE)
 }
 
 // Steps 2 to 4b, over rows that have a number for each intertie and for each holder; answers T.

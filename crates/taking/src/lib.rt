@@ -1,4 +1,6 @@
 // Takings of unassigned kW in stage 4, at most two of a holder in a week (docs/RULES.md, "Calls of the year").
+#![tactic(auto)]
+
 ghost use Rattle.std.specs.Prelude.{◌≡◌, ◌+◌, ◌-◌, ◌<◌, ◌≤◌, ◌^◌, eqb, set};
 ghost use Rattle.base.specs.Limits.{most_takings};
 ghost use Rattle.state.specs.Layout.{unassigned_at, unassigned_of, taken_at, taken_of};
@@ -12,7 +14,7 @@ use state::layout;
 
 // The calendar of a holder's takings: the day of the last one, whoever's it was, the week of the
 // holder's own last one, and the holder's takings in that week.
-#[derive(Drop)]
+#[derive(Clone, Copy)]
 struct Calendar {
     last_day: u32,
     week: u32,
@@ -134,7 +136,8 @@ fn take_kw(state: &[u32], intertie: u32, kw: u64) -> u64
 fn give(state: &mut [u32], holder: u32, intertie: u32, kw: u32)
     requires { (kw ≤ unassigned_of state.old intertie) × (taken_of state.old holder intertie + kw < 2 ^ 32) }
     ensures { let s = state.old in state.new
-        ≡ set (set s (unassigned_at intertie) (unassigned_of s intertie - kw)) (taken_at holder intertie) (taken_of s holder intertie + kw) }
+        ≡ set (set s (unassigned_at intertie) (unassigned_of s intertie - kw))
+        (taken_at holder intertie) (taken_of s holder intertie + kw) }
 {
     let unassigned = state::word(state, layout::UNASSIGNED, intertie);
     let taken = state::pair_word(state, layout::TAKEN, holder, intertie);

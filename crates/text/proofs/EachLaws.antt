@@ -1,13 +1,13 @@
 -- Texts one after the other: how long they are, and a loop that writes them.
 use Prim.Native.Nat.{ℕ, zero, suc, ◌+◌, ◌*◌, ◌≤◌, ◌<◌}
 use mathlib.Core.Path.{◌≡◌, refl, sym, ap, subst, ◌∙◌}
-use mathlib.Core.List.{List, [], ◌∷◌, ◌++◌}
+use mathlib.Core.List.{List, [], ◌++◌}
 use native.Mathlib.Nat.{suc-mul, le_step, lt-suc_self}
 use native.Mathlib.Numerals.{add-one}
 use native.Mathlib.Omega.{arith}
 use lib.ListN.{length, length-append}
 use lib.Seq.{length-take-le}
-use Rattle.text.specs.Written.{written, Starts, PutWithin}
+use Rattle.text.specs.Written.{Starts, PutWithin}
 use Rattle.text.specs.Lines.{each}
 use Rattle.text.proofs.WrittenLaws.{written_none, length-written}
 use Rattle.text.proofs.PutLaws.{Put, put-fits, put_then}

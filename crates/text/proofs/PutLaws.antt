@@ -7,7 +7,6 @@ use lib.ListN.{length, length-append, take, drop, set}
 use lib.Seq.{length-take-le, take-append_seam}
 use Rattle.base.specs.Words.{at}
 use Rattle.base.proofs.ChoiceLaws.{pick-by}
-use Rattle.io.specs.Counts.{IsPrefixLen}
 use Rattle.io.specs.Digits.{last_digits, IsDigitCount}
 use borrow.Author.Tests.{le-leb, lt-leb}
 use Rattle.text.specs.Written.{written, Starts, has_room, PutWithin}

@@ -1,11 +1,11 @@
 -- What writing text by text does.
-use Prim.Native.Nat.{ℕ, suc, ◌+◌, ◌≤◌, ◌<◌}
+use Prim.Native.Nat.{ℕ, ◌+◌, ◌≤◌, ◌<◌}
 use mathlib.Core.Path.{◌≡◌, refl, sym, ap, ◌∙◌}
 use mathlib.Core.List.{List, [], ◌∷◌, ◌++◌}
 use native.Mathlib.Numerals.{add-one}
 use native.Mathlib.Omega.{arith}
 use lib.ListN.{length, set, take, drop}
-use lib.Seq.{sets, length-sets, sets-eq, take-suc, length-take-le}
+use lib.Seq.{length-sets, sets-eq, take-suc, length-take-le}
 use Rattle.base.specs.Words.{at}
 use Rattle.base.proofs.WordLaws.{sets_more}
 use Rattle.text.specs.Written.{written}

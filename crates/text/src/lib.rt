@@ -1,4 +1,6 @@
 // Numbers and pieces of text in bytes: split, compared, read and written.
+#![tactic(auto)]
+
 mod comparing;
 mod pieces;
 mod reading;
@@ -14,7 +16,7 @@ pub use writing::{line, put, put_figure, put_line, put_within};
 pub const LINE_BYTES: usize = 189;
 
 // What a text is as a number of 32 bits.
-#[derive(Drop)]
+#[derive(Clone, Copy)]
 pub enum Number {
     Value(u32),
     // 2^32 or more.

@@ -1,6 +1,7 @@
 // Text written into bytes, up to a whole line. Each function writes from a place on and answers the place after it.
 ghost use Rattle.std.specs.Prelude.{◌≡◌, ◌+◌, ◌*◌, ◌≤◌, ◌∷◌, [], length};
-ghost use Rattle.text.specs.Written.{written, Starts, PutWithin};
+ghost use Rattle.io.specs.Counts.{IsPrefixLen};
+ghost use Rattle.text.specs.Written.{written, PutWithin};
 ghost use Rattle.text.specs.Lines.{label_bytes, line_figures, figure_bytes, line_bytes, figure, figures_of, line_of, bounded_line};
 
 use crate::LINE_BYTES;
@@ -13,7 +14,7 @@ const FIGURES: usize = 8;
 // label has over 20 bytes or there are over 8 figures.
 pub fn line(label: &[u8], separator: u8, figures: &[u64], out: &mut [u8; LINE_BYTES]) -> usize
     ensures { let text = bounded_line label.now separator figures.now in
-        Starts text result out.old out.new }
+        (result ≡ length text) × (out.new ≡ written 0 text out.old) × IsPrefixLen result out.new }
 {
     if LABEL_BYTES < label.len() {
         return 0;

@@ -1,5 +1,7 @@
 // Trade and request: how unplaced kilowatts pass from holder to holder, and how they are asked for
 // on an intertie (docs/RULES.md, "Calls of the year").
+#![tactic(auto)]
+
 ghost use Rattle.std.specs.Prelude.{◌≡◌, not, ◌||◌, ◌+◌, ◌<◌, ltb, eqb};
 ghost use Rattle.base.specs.Limits.{most_holders};
 ghost use Rattle.base.specs.Stages.{trading_stage, first_requests_stage, second_requests_stage};

@@ -1,5 +1,7 @@
 // The holders' weights in a closing (docs/RULES.md, "Calls of the year"): the load share, or the sellers' average where that
 // is 0. Apart from closing for the prover's time.
+#![tactic(auto)]
+
 ghost use Rattle.std.specs.Prelude.{◌≡◌, ℕ, ◌*◌, ◌%◌, ◌^◌, ◌≤◌, ◌<◌, length};
 ghost use Rattle.std.specs.Int.Count.{ones};
 ghost use Rattle.base.specs.Limits.{state_words, most_holders};

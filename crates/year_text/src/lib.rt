@@ -1,5 +1,7 @@
 // What program `year` prints, as text. Each public function writes its lines at the start of the bytes it is lent and
 // answers how many bytes they are.
+#![tactic(auto)]
+
 ghost use Rattle.text.specs.Written.{Starts, PutWithin};
 ghost use Rattle.year_text.specs.Text.{answer_line, answers_text, grant_line, grants_text};
 ghost use Rattle.year_text.specs.Text.{intertie_line, interties_text, holder_line, holders_text};

@@ -1,4 +1,6 @@
 // The library as C and Rust link it: every call under one prefix. A slice is a pointer and a count.
+#![tactic(auto)]
+
 ghost use Rattle.std.specs.Prelude.{◌≡◌};
 ghost use Rattle.zankurbe.specs.Version.{version};
 ghost use Rattle.share_out.specs.Rule.{share_out};

@@ -1,8 +1,7 @@
 -- What the workers of a closing are handed and what they leave. A table of the pairs has a row of 48 numbers for each holder.
 use Rattle.std.specs.Prelude.{ℕ, zero, suc, ◌+◌, ◌-◌, ◌≤◌, ◌<◌, ◌≡◌, List, length, set}
-use Rattle.base.specs.Sums.{sum_to}
 use Rattle.base.specs.Words.{at}
-use Rattle.base.specs.Limits.{most_holders, most_interties, most_pairs, most_kw, state_words}
+use Rattle.base.specs.Limits.{most_holders, most_interties, most_pairs, most_kw}
 use Rattle.base.specs.Stages.{second_requests_stage}
 use Rattle.intertie_shares.specs.Pairs.{at_pair}
 use Rattle.state.specs.Layout.{interties, holders, stage_of, unassigned_of, unplaced_of}
@@ -14,30 +13,20 @@ unfoldable pub fill_from : ℕ → ℕ → (ℕ → ℕ) → List ℕ → List �
 fill_from from zero f l = l
 fill_from from (suc n) f l = set (fill_from from n f l) (from + n) (f n)
 
--- a state that refusals 5 to 7 let pass, of n interties and m holders
-pub record Closable (s : List ℕ) (n m : ℕ) : Type 0 where
+-- a state that refusals 5 to 7 let pass
+pub record Closable (s : List ℕ) : Type 0 where
   pub fit : state_refusal s ≡ 0
   pub stage-most : stage_of s ≤ second_requests_stage
-  pub long : state_words ≤ length s
-  pub interties-are : n ≡ interties s
-  pub interties-most : n ≤ most_interties
-  pub holders-are : m ≡ holders s
-  pub holders-most : m ≤ most_holders
 
 -- the table of this closing's grants
-pub record Granted (s : List ℕ) (n m : ℕ) (table : List ℕ) : Type 0 where
+pub record Granted (s table : List ℕ) : Type 0 where
   pub size : length table ≡ most_pairs
-  pub pairs : (h i : ℕ) → h < m → i < n → at_pair table h i ≡ close_grant s h i
-  pub small : (h i : ℕ) → h < m → i < n → at_pair table h i ≤ most_kw
-
--- a row off whose first n numbers what m holders have is taken
-pub record Lowered (n : ℕ) (f : ℕ → ℕ → ℕ) (first row : List ℕ) (m : ℕ) : Type 0 where
-  pub size : length row ≡ length first
-  pub left : (i : ℕ) → i < n → at row i ≡ at first i - sum_to m (λ h. f h i)
+  pub pairs : (h i : ℕ) → h < holders s → i < interties s → at_pair table h i ≡ close_grant s h i
+  pub small : (h i : ℕ) → h < holders s → i < interties s → at_pair table h i ≤ most_kw
 
 -- the numbers that are written over two rows of the state
-pub record Written (s : List ℕ) (n m : ℕ) (unassigned unplaced : List ℕ) : Type 0 where
+pub record Written (s unassigned unplaced : List ℕ) : Type 0 where
   pub unassigned-size : most_interties ≤ length unassigned
-  pub unassigned-is : (i : ℕ) → i < n → at unassigned i ≡ unassigned_of s i - granted_on s i
+  pub unassigned-is : (i : ℕ) → i < interties s → at unassigned i ≡ unassigned_of s i - granted_on s i
   pub unplaced-size : most_holders ≤ length unplaced
-  pub unplaced-is : (h : ℕ) → h < m → at unplaced h ≡ unplaced_of s h - granted_to s h
+  pub unplaced-is : (h : ℕ) → h < holders s → at unplaced h ≡ unplaced_of s h - granted_to s h

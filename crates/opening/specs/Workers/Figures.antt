@@ -1,5 +1,5 @@
 -- What Steps 5 to 7 are handed, and what they leave, as rows and tables.
-use Rattle.std.specs.Prelude.{ℕ, ◌+◌, ◌*◌, ◌≤◌, ◌<◌, ◌≡◌, List, length}
+use Rattle.std.specs.Prelude.{ℕ, ◌+◌, ◌≤◌, ◌<◌, ◌≡◌, List, length}
 use Rattle.base.specs.Limits.{most_interties, most_holders, most_pairs, most_kw, most_load_share, most_total_kw}
 use Rattle.base.specs.Sums.{sum_to}
 use Rattle.base.specs.Words.{at, tab}

@@ -1,11 +1,11 @@
 -- A posting's text by the columns of its rows of numbers, as the code writes it.
 use Rattle.std.specs.Prelude.{ℕ, ◌+◌, List, [], ◌∷◌, ◌++◌, replicate}
-use Prim.Native.Char.{code}
 use Rattle.base.specs.Words.{at, tab}
-use Rattle.text.specs.Lines.{blank, line_of, line, each}
+use Rattle.text.specs.Lines.{each}
 use Rattle.state.specs.Layout.{place}
 use Rattle.posting.specs.Rows.{limit_line, load_share_line, posting_numbers}
 use Rattle.posting.specs.Post.{Posted, posted}
+use Rattle.posting_text.specs.Text.{letter_t, letter_i, letter_h, line}
 
 -- how many rows an intertie has, and how many a holder
 abbrev pub intertie_rows : ℕ
@@ -30,14 +30,14 @@ column_of first rows l column = tab rows (λ r. at l (place (first + r) column))
 
 -- the line of a column, with its number
 abbrev pub column_line : ℕ → ℕ → ℕ → List ℕ → ℕ → List ℕ
-column_line letter first rows l column = line_of (letter ∷ []) blank (column ∷ column_of first rows l column)
+column_line letter first rows l column = line letter (column ∷ column_of first rows l column)
 
 -- T, then the lines of I interties and of H holders
 unfoldable pub lines_text : ℕ → ℕ → ℕ → List ℕ → List ℕ
 lines_text I H total l =
-    line "T" (total ∷ [])
-    ++ each I (column_line (code "I") limit_line intertie_rows l)
-    ++ each H (column_line (code "H") load_share_line holder_rows l)
+    line letter_t (total ∷ [])
+    ++ each I (column_line letter_i limit_line intertie_rows l)
+    ++ each H (column_line letter_h load_share_line holder_rows l)
 
 -- the posting of a sheet into zeros
 abbrev pub fresh : List ℕ → Posted

@@ -1,10 +1,9 @@
 -- What Steps 3 to 4b are handed, and what they leave, as rows and tables.
-use Rattle.std.specs.Prelude.{ℕ, ◌≤◌, ◌<◌, ◌≡◌, List, length}
+use Rattle.std.specs.Prelude.{ℕ, ◌≤◌, ◌≡◌, List, length}
 use Rattle.base.specs.Limits.{most_interties, most_holders, most_pairs}
 use Rattle.base.specs.Words.{tab}
 use Rattle.intertie_shares.specs.Pairs.{fill_table}
 use Rattle.sheet_reading.specs.Tables.{slots}
-use Rattle.steps.specs.Inputs.{Inputs}
 use Rattle.steps.specs.Tables.{of_tables}
 use Rattle.steps.specs.Step2.{available, load_share_quantity}
 use Rattle.steps.specs.Step4a.{pre_ra_granted}

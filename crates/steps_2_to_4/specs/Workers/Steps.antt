@@ -4,7 +4,6 @@ use Rattle.base.specs.Limits.{most_interties, most_holders, most_pairs, most_kw,
 use Rattle.base.specs.Words.{at, tab, fill}
 use Rattle.intertie_shares.specs.Pairs.{fill_table}
 use Rattle.sheet_reading.specs.Tables.{slots, limit_slot, load_share_slot}
-use Rattle.steps.specs.Inputs.{Inputs}
 use Rattle.steps.specs.Tables.{of_tables}
 use Rattle.steps.specs.Step2.{available_total, load_share_quantity}
 use Rattle.steps.specs.Step4a.{pre_ra_granted}

@@ -1,5 +1,5 @@
 -- Rows and tables of the pairs as the steps work on them: a row of the interties for each holder.
-use Rattle.std.specs.Prelude.{ℕ, ◌+◌, ◌-◌, ◌*◌, ◌≤◌, ◌<◌, ◌≡◌, List, length}
+use Rattle.std.specs.Prelude.{ℕ, ◌+◌, ◌-◌, ◌<◌, ◌≡◌, List, length}
 use Rattle.base.specs.Limits.{most_interties}
 use Rattle.base.specs.Sums.{sum_to}
 use Rattle.base.specs.Words.{at, tab}

@@ -1,0 +1,11 @@
+-- `sum_of` meets its contract: after c turns the first c numbers are added, in 64 bits.
+use Rattle.std.proofs.Common.{◌≡◌, ◌-◌, ◌%◌, ◌^◌, ◌≤◌, length}
+use Rattle.base.specs.Sums.{sum_to}
+use Rattle.base.specs.Words.{at}
+use Rattle.base.proofs.vectors.sum_of.Given as goal
+
+abbrev pub invariant-loop-c : goal.invariant-loop-c
+invariant-loop-c l = (l.c ≤ length l.list) × (l.sum ≡ sum_to l.c (at l.list) % 2 ^ 64)
+
+abbrev pub decreases-loop-c : goal.decreases-loop-c
+decreases-loop-c l = length l.list - l.c

@@ -1,0 +1,12 @@
+use Rattle.base.proofs.Prelude.{rules}
+use Rattle.base.proofs.VectorLaws.{filling-none, filling-next, filling-all}
+use Rattle.intertie_shares.proofs.gather.Goals as goal
+
+pub loop-h-init : goal.loop-h-init
+loop-h-init c = search (rules, filling-none)
+
+pub loop-h-preserved : goal.loop-h-preserved
+loop-h-preserved c = search (rules, filling-next)
+
+pub returns : goal.returns
+returns c = search (rules, filling-all)

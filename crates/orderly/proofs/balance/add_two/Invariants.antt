@@ -1,0 +1,13 @@
+-- `orderly::balance::add_two` meets its contract. The invariant: the sums of the interties passed are filled, and the bits of their pairs are together.
+use Rattle.base.proofs.Prelude.{ℕ, ◌+◌, ◌-◌, ◌%◌, ◌^◌, ◌≤◌, ◌≡◌, ltb, all_to, at, fill}
+use Rattle.orderly.specs.Workers.Check.{two_kw, two_fit}
+use Rattle.orderly.proofs.balance.add_two.Given as goal
+
+abbrev pub invariant-loop-intertie : goal.invariant-loop-intertie
+invariant-loop-intertie l =
+    (l.intertie ≤ l.intertie-end)
+    × (ltb l.bits (2 ^ 25) ≡ all_to l.intertie (λ (i : ℕ). two_fit l.state l.holder i))
+    × (l.sums ≡ fill l.intertie (λ (i : ℕ). (at l.initial.sums i + two_kw l.state l.holder i % 2 ^ 32) % 2 ^ 32) l.initial.sums)
+
+abbrev pub decreases-loop-intertie : goal.decreases-loop-intertie
+decreases-loop-intertie l = l.intertie-end - l.intertie

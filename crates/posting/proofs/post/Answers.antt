@@ -1,0 +1,27 @@
+-- `post` meets its contract: refused as the sheet is, or the lines of the opened state (`PostLaws`).
+use Rattle.base.proofs.Prelude.{sym, ap, ◌∙◌, rules}
+use Rattle.posting.specs.Post.{Posted}
+use Rattle.posting.proofs.PostLaws.{post-refused, post-number, post-fails, post-holders, post-readable, post-lines}
+use Rattle.posting.proofs.post.Goals as goal
+
+pub returns-then-answer-ne0 : goal.returns-then-answer-ne0
+returns-then-answer-ne0 c = let a = c.args in
+    let e = c.open_with_quantities-answer.ensures in
+    let ne = post-fails _ _ _ _ e.0 e.1 e.2 c.if-answer-ne0.true in
+    let done = post-refused a.sheet.now a.lines.now ne in
+    (post-number _ _ _ _ e.0 e.1 e.2 ne ∙ sym (ap (λ (o : Posted). o.answer) done), sym (ap (λ (o : Posted). o.lines) done))
+
+pub intertie_lines-requires : goal.intertie_lines-requires
+intertie_lines-requires c =
+    let e = c.open_with_quantities-answer.ensures in
+    post-readable _ _ _ _ e.0 e.1 e.2 c.if-answer-ne0.false _ _ c.word-interties.ensures c.word-holders.ensures _ (search rules) (search rules)
+
+pub holder_lines-requires : goal.holder_lines-requires
+holder_lines-requires c =
+    let e = c.open_with_quantities-answer.ensures in
+    (search rules, post-holders _ _ _ _ e.0 e.1 e.2 c.if-answer-ne0.false _ _ c.word-interties.ensures c.word-holders.ensures, search rules)
+
+pub returns : goal.returns
+returns c =
+    let e = c.open_with_quantities-answer.ensures in
+    post-lines _ _ _ _ e.0 e.1 e.2 c.if-answer-ne0.false _ _ c.word-interties.ensures c.word-holders.ensures _ _ _ c.intertie_lines.ensures c.holder_lines.ensures

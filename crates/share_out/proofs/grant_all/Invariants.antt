@@ -1,0 +1,10 @@
+-- `grant_all` meets its contract: after i turns the first i grants are the claims.
+use Rattle.base.proofs.Prelude.{◌-◌, length, at}
+use Rattle.base.proofs.VectorLaws.{Filling}
+use Rattle.share_out.proofs.grant_all.Given as goal
+
+abbrev pub invariant-loop-i : goal.invariant-loop-i
+invariant-loop-i l = Filling (at l.claims) l.initial.grants l.grants l.i
+
+abbrev pub decreases-loop-i : goal.decreases-loop-i
+decreases-loop-i l = length l.claims - l.i

@@ -1,0 +1,21 @@
+-- `unfit_numbers` meets its contract: by the pool, by the bits of all, or by each holder.
+use Rattle.base.proofs.Prelude.{sym, ◌∙◌, arith, rules}
+use Rattle.share_out.proofs.NumberLaws.{pool-over, surely-fit, all_fit, by-holders}
+use Rattle.share_out.proofs.unfit_numbers.Goals as goal
+
+pub returns-then-pool-gt-MOST_KW : goal.returns-then-pool-gt-MOST_KW
+returns-then-pool-gt-MOST_KW c = search (rules, pool-over)
+
+pub returns-then-surely_in_range : goal.returns-then-surely_in_range
+returns-then-surely_in_range c =
+    let claims = c.args.claims.now in
+    let weights = c.args.weights.now in
+    let w = c.weight_bits in
+    sym
+    (all_fit c.args.pool claims weights c.if-pool-gt-MOST_KW.false
+    (surely-fit claims weights _ _ c.claim_bits.ensures (λ i l. w.ensures i (omega (arith, c.requires))) (sym c.surely_in_range.ensures ∙ c.if-surely_in_range.true)))
+
+pub returns : goal.returns
+returns c =
+    let a = c.args in
+    c.some_out_of_range.ensures ∙ by-holders a.pool a.claims.now a.weights.now c.if-pool-gt-MOST_KW.false

@@ -1,0 +1,23 @@
+use Rattle.base.proofs.Prelude.{◌≡◌, sym, ap, ◌∙◌, arith, rules, sum_to}
+use Rattle.base.proofs.SumLaws.{sum_to-zero, sum_to-more}
+use Rattle.state.proofs.of_holder.Invariants.{pairs}
+use Rattle.state.proofs.of_holder.Goals as goal
+
+pub loop-intertie-init : goal.loop-intertie-init
+loop-intertie-init c =
+    let a = c.args in
+    (search rules, sym (sum_to-zero (pairs a.state.now a.field a.holder)), search rules)
+
+pub loop-intertie-preserved : goal.loop-intertie-preserved
+loop-intertie-preserved c =
+    let a = c.args in (
+      search rules,
+      omega (arith, c.loop-intertie.invariant.1, c.pair_word.ensures, sum_to-more c.loop-intertie.intertie (pairs a.state.now a.field a.holder)),
+      search rules,
+    )
+
+pub returns : goal.returns
+returns c =
+    let a = c.args in
+    let end : c.loop-intertie.intertie ≡ c.intertie_count-interties.result = omega arith in
+    c.loop-intertie.invariant.1 ∙ ap (λ n. sum_to n (pairs a.state.now a.field a.holder)) (end ∙ c.intertie_count-interties.ensures)

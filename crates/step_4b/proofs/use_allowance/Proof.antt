@@ -1,8 +1,0 @@
--- `use_allowance` meets its contract: its calls are the two equations.
-use Rattle.base.proofs.Prelude.{arith, needs}
-use Rattle.step_4b.proofs.use_allowance.Statement.{statement}
-use Rattle.step_4b.proofs.use_allowance.Tie as tie
-
-pub use-allowance-spec : {M : Type 1} → statement M
-use-allowance-spec = tie.close (tie.spec (λ c κs. search needs) (λ c κs. search needs) (λ c. search needs)
-    (λ c κs. search needs) (λ c. search needs) (λ c. search needs) (λ c. (omega arith, cc)))

@@ -1,0 +1,64 @@
+-- `step_5_shares` meets its contract: lists that don't fit, numbers that don't, and the shares.
+use Rattle.std.proofs.Common.{not}
+use Rattle.base.proofs.Prelude.{the, sym, ap, ◌∙◌, ◌++◌, length, drop, replicate}
+use borrow.Author.Tests.{not-true, not-false}
+use lib.Seq.{length-take-le}
+use Rattle.step_5.specs.Outcome.{Outcome}
+use Rattle.base.proofs.WordLaws.{take-replicate}
+use Rattle.step_5.proofs.FitLaws.{FitLengths, fit-lengths, accepted}
+use Rattle.step_5.proofs.OutcomeLaws.{outcome-lengths, outcome-numbers, outcome-shares, shares-front}
+use Rattle.step_5.proofs.step_5_shares.Goals as goal
+
+pub returns-then-not-fit_lengths : goal.returns-then-not-fit_lengths
+returns-then-not-fit_lengths c =
+    let a = c.args in
+    let o = outcome-lengths a.total_kw a.held.now a.loads.now a.shares.now (sym c.fit_lengths.ensures ∙ not-true _ (ap not c.if-not-fit_lengths.true)) in
+    (sym (ap (λ (r : Outcome). r.fit) o), sym (ap (λ (r : Outcome). r.output) o))
+
+pub returns-then-not-fit_numbers : goal.returns-then-not-fit_numbers
+returns-then-not-fit_numbers c =
+    let a = c.args in
+    let o = outcome-numbers a.total_kw a.held.now a.loads.now a.shares.now (sym c.fit_numbers.ensures ∙ not-true _ (ap not c.if-not-fit_numbers.true)) in
+    (sym (ap (λ (r : Outcome). r.fit) o), sym (ap (λ (r : Outcome). r.output) o))
+
+pub assign-requires : goal.assign-requires
+assign-requires c =
+    let fit = (the ((let a = c.args in
+    FitLengths (length a.held.now) (length a.loads.now) (length a.shares.now))) (fit-lengths _ _ _ (sym c.fit_lengths.ensures ∙ not-false _ (ap not c.if-not-fit_lengths.false)))) in (
+      accepted _ _ _ fit.few fit.paired (sym c.fit_numbers.ensures ∙ not-false _ (ap not c.if-not-fit_numbers.false)),
+      take-replicate _ 32 0 fit.few,
+      length-take-le _ _ fit.room,
+    )
+
+pub returns : goal.returns
+returns c =
+    let a = c.args in
+    let o = outcome-shares a.total_kw a.held.now a.loads.now a.shares.now
+    (sym c.fit_lengths.ensures ∙ not-false _ (ap not c.if-not-fit_lengths.false))
+    (sym c.fit_numbers.ensures ∙ not-false _ (ap not c.if-not-fit_numbers.false)) in (
+      sym (ap (λ (r : Outcome). r.fit) o),
+      ap (λ l. l ++ drop (length a.held.now) a.shares.now) c.assign.ensures
+          ∙ sym (shares-front a.total_kw a.held.now a.loads.now a.shares.now (the ((let a = c.args in
+          FitLengths (length a.held.now) (length a.loads.now) (length a.shares.now))) (fit-lengths _ _ _ (sym c.fit_lengths.ensures ∙ not-false _ (ap not c.if-not-fit_lengths.false)))).room)
+          ∙ sym (ap (λ (r : Outcome). r.output) o),
+    )
+
+pub fit_numbers-requires : goal.fit_numbers-requires
+fit_numbers-requires c = (the ((let a = c.args in
+    FitLengths (length a.held.now) (length a.loads.now) (length a.shares.now))) (fit-lengths _ _ _ (sym c.fit_lengths.ensures ∙ not-false _ (ap not c.if-not-fit_lengths.false)))).paired
+
+pub slice_bounds-marks-end : goal.slice_bounds-marks-end
+slice_bounds-marks-end c = (the ((let a = c.args in
+    FitLengths (length a.held.now) (length a.loads.now) (length a.shares.now))) (fit-lengths _ _ _ (sym c.fit_lengths.ensures ∙ not-false _ (ap not c.if-not-fit_lengths.false)))).few
+
+pub slice_bounds-assign-end : goal.slice_bounds-assign-end
+slice_bounds-assign-end c = sym (length-take-le _ (replicate 32 0) (the ((let a = c.args in
+    FitLengths (length a.held.now) (length a.loads.now) (length a.shares.now))) (fit-lengths _ _ _ (sym c.fit_lengths.ensures ∙ not-false _ (ap not c.if-not-fit_lengths.false)))).few)
+
+pub slice_bounds-assign-end-2 : goal.slice_bounds-assign-end-2
+slice_bounds-assign-end-2 c = (the ((let a = c.args in
+    FitLengths (length a.held.now) (length a.loads.now) (length a.shares.now))) (fit-lengths _ _ _ (sym c.fit_lengths.ensures ∙ not-false _ (ap not c.if-not-fit_lengths.false)))).room
+
+pub slice_bounds-assign-end-3 : goal.slice_bounds-assign-end-3
+slice_bounds-assign-end-3 c = sym (length-take-le _ _ (the ((let a = c.args in
+    FitLengths (length a.held.now) (length a.loads.now) (length a.shares.now))) (fit-lengths _ _ _ (sym c.fit_lengths.ensures ∙ not-false _ (ap not c.if-not-fit_lengths.false)))).room)

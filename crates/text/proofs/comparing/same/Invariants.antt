@@ -1,0 +1,10 @@
+-- `comparing::same` meets its contract: after i turns the first i bytes are the same.
+use Rattle.base.proofs.Prelude.{◌-◌, ◌≤◌, ◌≡◌, length, drop}
+use Rattle.text.specs.Ascii.{same}
+use Rattle.text.proofs.comparing.same.Given as goal
+
+abbrev pub invariant-loop-i : goal.invariant-loop-i
+invariant-loop-i l = (l.i ≤ length l.a) × (length l.a ≡ length l.b) × (same (drop l.i l.a) (drop l.i l.b) ≡ same l.a l.b)
+
+abbrev pub decreases-loop-i : goal.decreases-loop-i
+decreases-loop-i l = length l.a - l.i

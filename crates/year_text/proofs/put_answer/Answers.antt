@@ -1,0 +1,17 @@
+-- `put_answer` meets its contract: a refusal, or what was granted.
+use borrow.Author.Tests.{eq-eqb, ne_eqb}
+use Rattle.text.specs.Lines.{bounded_line}
+use Rattle.year_text.specs.Text.{answer_line}
+use Rattle.year_text.proofs.put_answer.Goals as goal
+
+pub returns-then-refusal-ne0 : goal.returns-then-refusal-ne0
+unfolding answer_line bounded_line
+returns-then-refusal-ne0 c =
+    rw (ne_eqb c.args.refusal 0 c.if-refusal-ne0.true)
+    c.put_line.ensures
+
+pub returns : goal.returns
+unfolding answer_line bounded_line
+returns c =
+    rw (eq-eqb c.args.refusal 0 c.if-refusal-ne0.false)
+    c.put_line-2.ensures
