@@ -16,8 +16,8 @@ use std::process::{Command, Stdio};
 /// The numbers of a row.
 const ROW: usize = 48;
 
-/// The program `post`, as the checker leaves it.
-const POST: &str = concat!(env!("CARGO_MANIFEST_DIR"), "/../target/bin/post");
+/// The program `post`, as its crate has it.
+const POST: &str = concat!(env!("CARGO_MANIFEST_DIR"), "/../crates/post/out/post");
 
 pub fn measure(table: &mut Table) {
     let full: Vec<Vec<u8>> = (0..SHEETS).map(sheets::full).collect();
@@ -98,7 +98,7 @@ fn processes(table: &mut Table, full: &[Vec<u8>]) {
     let here = std::env::current_exe().expect("a path of this program");
     let theirs = here.with_file_name("independent_post");
     if !post.exists() || !theirs.exists() {
-        println!("(the programs as processes: target/bin/post or independent_post isn't there)");
+        println!("(the programs as processes: crates/post/out/post or independent_post isn't there)");
         return;
     }
     for sheet in full {

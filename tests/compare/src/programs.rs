@@ -7,6 +7,7 @@ use std::path::{Path, PathBuf};
 use std::process::{Command, Stdio};
 
 const TARGET: &str = concat!(env!("CARGO_MANIFEST_DIR"), "/../../target");
+const CRATES: &str = concat!(env!("CARGO_MANIFEST_DIR"), "/../../crates");
 
 /// What a process prints.
 #[derive(Clone, PartialEq)]
@@ -53,7 +54,7 @@ impl Ours<'_> {
         let _ = fs::remove_file(self.folder.0.join(name));
     }
 
-    /// Runs a program of target/bin in the folder, with `input` on standard input in the parts given.
+    /// Runs a program, as its crate has it, in the folder, with `input` on standard input in the parts given.
     pub fn run(
         &self,
         program: &str,
@@ -72,7 +73,8 @@ fn run(
     folder: &Path,
 ) -> Result<Printed, String> {
     let failed = |e| format!("can't run {program}: {e}");
-    let path = fs::canonicalize(PathBuf::from(TARGET).join("bin").join(program)).map_err(failed)?;
+    let built = format!("{CRATES}/{program}/out/{program}");
+    let path = fs::canonicalize(built).map_err(failed)?;
     let mut process = Command::new(path)
         .args(arguments)
         .current_dir(folder)

@@ -1,8 +1,11 @@
 //! What the library's source says: its exported functions, the structs that they answer, its constants.
 
-use crate::text::{between, parts, without_comments};
+use crate::text::{parts, without_comments};
 use std::fs;
 use std::path::{Path, PathBuf};
+
+/// How an exported function begins.
+const EXPORTED: &str = "#[unsafe(no_mangle)]";
 
 /// An exported function: its parameters by name and type, and the type of its result.
 pub struct Function {
@@ -40,9 +43,9 @@ impl Library {
     /// The exported functions.
     pub fn functions(&self) -> Result<Vec<Function>, String> {
         let source = self.source("zankurbe")?;
-        let marked = source.matches("#[no_mangle]").count();
+        let marked = source.matches(EXPORTED).count();
         let functions: Vec<Function> = source
-            .split("#[no_mangle]\npub extern \"C\" fn ")
+            .split(&format!("{EXPORTED}\npub extern \"C\" fn "))
             .skip(1)
             .map(function)
             .collect::<Option<_>>()
@@ -60,10 +63,15 @@ impl Library {
     /// The fields of a struct that C can read, by name and type.
     pub fn fields(&self, of_crate: &str, name: &str) -> Result<Vec<(String, String)>, String> {
         let source = self.source(of_crate)?;
-        let start = format!("#[repr(C)]\npub struct {name} {{");
-        let (body, _) = between(&source, &start, "}").ok_or(format!(
-            "crates/{of_crate}: no struct {name} that C can read"
-        ))?;
+        let unread = || format!("crates/{of_crate}: no struct {name} that C can read");
+        let (before, after) = source
+            .split_once(&format!("pub struct {name} {{"))
+            .ok_or_else(unread)?;
+        let mut attributes = before.lines().rev().take_while(|it| it.starts_with("#["));
+        if !attributes.any(|it| it == "#[repr(C)]") {
+            return Err(unread());
+        }
+        let (body, _) = after.split_once('}').ok_or_else(unread)?;
         let fields = parts(body, ',').into_iter().map(|field| {
             let (name, of_type) = field.strip_prefix("pub ")?.split_once(':')?;
             Some((name.trim().to_string(), of_type.trim().to_string()))
