@@ -5,4 +5,5 @@ pub mod WordLaws
 pub mod VectorLaws
 pub mod TestLaws
 pub mod PlaceLaws
+pub mod ListLaws
 pub mod Prelude

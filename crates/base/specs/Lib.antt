@@ -4,6 +4,10 @@ pub mod Words
 pub mod Answers
 pub mod Limits
 pub mod Refusals
+pub mod Refused
 pub mod Kinds
+pub mod Kind
 pub mod Stages
+pub mod Stage
 pub mod Encoding
+pub mod CallKind

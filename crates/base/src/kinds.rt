@@ -1,4 +1,6 @@
 // The kinds of record, each named here once; specs/Kinds has the same.
+ghost use Rattle.std.specs.Prelude.{◌≡◌};
+ghost use Rattle.base.specs.Kind.{number_of, Decodes};
 
 // Limit (Maximum Import Capability) of an intertie.
 pub const LIMIT: u32 = 1;
@@ -17,3 +19,51 @@ pub const PRE_RA_COMMITMENT: u32 = 5;
 
 // New Use commitment: holder, intertie, years, rank.
 pub const NEW_USE_COMMITMENT: u32 = 6;
+
+// The kinds by their numbers.
+#[derive(Clone, Copy, Debug, PartialEq, Eq)]
+pub enum Kind {
+    // Limit (Maximum Import Capability) of an intertie.
+    Limit = 1,
+    // Outside right on an intertie.
+    OutsideRight = 2,
+    // Load share of a holder.
+    LoadShare = 3,
+    // Existing contract: holder, intertie, years.
+    ExistingContract = 4,
+    // Pre-RA commitment: holder, intertie, years.
+    PreRaCommitment = 5,
+    // New Use commitment: holder, intertie, years, rank.
+    NewUseCommitment = 6,
+}
+
+impl Kind {
+    // The number by which a key names a kind.
+    pub fn number(self) -> u32
+        ensures { result ≡ number_of self }
+    {
+        self as u32
+    }
+}
+
+// A number that names no kind.
+#[derive(Clone, Copy, Debug, PartialEq, Eq)]
+pub struct NoKind;
+
+impl TryFrom<u32> for Kind {
+    type Error = NoKind;
+
+    ghost try_from_gives = { Decodes };
+
+    fn try_from(number: u32) -> Result<Kind, NoKind> {
+        match number {
+            1 => Ok(Kind::Limit),
+            2 => Ok(Kind::OutsideRight),
+            3 => Ok(Kind::LoadShare),
+            4 => Ok(Kind::ExistingContract),
+            5 => Ok(Kind::PreRaCommitment),
+            6 => Ok(Kind::NewUseCommitment),
+            _ => Err(NoKind),
+        }
+    }
+}

@@ -12,6 +12,9 @@ pub mod vectors;
 
 ghost use Rattle.std.specs.Prelude.{◌≡◌};
 ghost use Rattle.base.specs.Answers.{refused, granted};
+ghost use Rattle.base.specs.Refused.{answer_of};
+
+use refusals::Refusal;
 
 // The answer of a call: the number of a refusal, or 0; the kilowatts; the passes of share-outs.
 #[repr(C)]
@@ -42,6 +45,25 @@ impl Answer {
             refusal: 0,
             kw,
             passes,
+        }
+    }
+}
+
+// What a granted call gives: the kilowatts, and the passes of share-outs.
+#[derive(Clone, Copy, Debug, PartialEq, Eq)]
+pub struct Granted {
+    pub kw: u64,
+    pub passes: u64,
+}
+
+// The answer that an outcome is for those who link the library.
+impl From<Result<Granted, Refusal>> for Answer {
+    ghost from_gives = { λ outcome answer. answer ≡ answer_of outcome };
+
+    fn from(outcome: Result<Granted, Refusal>) -> Answer {
+        match outcome {
+            Ok(granted) => Answer::granted(granted.kw, granted.passes),
+            Err(refusal) => Answer::refused(refusal.number()),
         }
     }
 }

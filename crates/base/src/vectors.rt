@@ -1,60 +1,35 @@
-// Lists of numbers, word by word: cleared, tested, added up, taken off one another. A caller lends the very words that are
-// meant.
+// Lists of numbers: cleared, tested, added up, taken off one another. A caller lends the very words that are meant.
 ghost use Rattle.std.specs.Prelude.{◌≡◌, ℕ, ◌-◌, ◌%◌, ◌^◌, length, nat_le};
 ghost use Rattle.base.specs.Sums.{sum_to, all_to};
 ghost use Rattle.base.specs.Words.{at, tab};
-
-use crate::numbers::{excess, shorter};
-use std::num::wrapping_add_u64;
 
 // Makes every number 0.
 pub fn clear(list: &mut [u64])
     ensures { list.new ≡ tab (length list.old) (λ (c : ℕ). 0) }
 {
-    let mut c = 0;
-    while c < list.len() {
-        list[c] = 0;
-        c += 1;
-    }
+    list.fill(0);
 }
 
 // Whether every number is within a most.
 pub fn all_within(list: &[u64], most: u64) -> bool
     ensures { result ≡ all_to (length list.now) (λ (c : ℕ). nat_le (at list.now c) most) }
 {
-    let mut within = true;
-    let mut c = 0;
-    while c < list.len() {
-        within = within & (list[c] <= most);
-        c += 1;
-    }
-    within
+    list.iter().all(|number| *number <= most)
 }
 
 // The sum of the numbers, modulo 2^64.
 pub fn sum_of(list: &[u64]) -> u64
     ensures { result ≡ sum_to (length list.now) (at list.now) % 2 ^ 64 }
 {
-    let mut sum = 0;
-    let mut c = 0;
-    while c < list.len() {
-        sum = wrapping_add_u64(sum, list[c]);
-        c += 1;
-    }
-    sum
+    list.iter().fold(0, |sum, number| sum.wrapping_add(*number))
 }
 
 // What is left of a number once those of a list are taken off, 0 if nothing.
 pub fn left_of(start: u64, list: &[u64]) -> u64
     ensures { result ≡ start - sum_to (length list.now) (at list.now) }
 {
-    let mut left = start;
-    let mut c = 0;
-    while c < list.len() {
-        left = excess(left, list[c]);
-        c += 1;
-    }
-    left
+    list.iter()
+        .fold(start, |left, number| left.saturating_sub(*number))
 }
 
 // Takes the numbers of a list off those of a row, each off the one at its place; what would be below 0 is 0, and a number
@@ -63,10 +38,8 @@ pub fn take_off(list: &[u64], row: &mut [u64])
     ensures { row.new
         ≡ tab (length row.old) (λ (c : ℕ). at row.old c - at list.now c) }
 {
-    let count = shorter(list.len(), row.len());
-    let mut c = 0;
-    while c < count {
-        row[c] = excess(row[c], list[c]);
-        c += 1;
+    let count = list.len().min(row.len());
+    for c in 0..count {
+        row[c] = row[c].saturating_sub(list[c]);
     }
 }

@@ -1,13 +1,11 @@
-use Rattle.std.proofs.Common.{sym, refl, rules}
-use Rattle.base.proofs.SumLaws.{all_to-zero, all_more, all_done}
+use Rattle.std.proofs.Common.{◌∙◌, nat_le, rules}
+use Rattle.std.proofs.lemmas.Iterator.{YieldsList-from_slice}
+use Rattle.std.proofs.lemmas.Iterator.Search.{all_from_yields_List}
+use Rattle.base.proofs.Rules.{tests}
+use Rattle.base.proofs.ListLaws.{all_places}
 use Rattle.base.proofs.vectors.all_within.Goals as goal
 
-pub loop-c-preserved : goal.loop-c-preserved
-loop-c-preserved c =
-    (search rules, all_more _ _ _ _ c.loop-c.invariant.1 refl)
-
 pub returns : goal.returns
-returns c = all_done _ _ _ _ c.loop-c.invariant.1 c.loop-c.invariant.0 c.loop-c-test.false
-
-pub loop-c-init : goal.loop-c-init
-loop-c-init c = (search rules, sym (all_to-zero _))
+returns c =
+    all_from_yields_List (λ number. nat_le number c.args.most) _ _ c.all.result c.all.ensures.ran (YieldsList-from_slice c.args.list.now cc) (λ x b q k. search (rules, tests))
+    ∙ all_places _ _

@@ -1,17 +1,9 @@
-use Rattle.std.proofs.Common.{◌≡◌, ◌%◌, ◌^◌, length, ap, ◌∙◌, arith, rules}
-use Rattle.base.specs.Sums.{sum_to}
-use Rattle.base.specs.Words.{at}
-use Rattle.base.proofs.VectorLaws.{wraps-none, wraps-more}
+use Rattle.std.proofs.Common.{◌≡◌, ◌∙◌, ◌+◌, ◌%◌, ◌^◌, rules}
+use Rattle.std.specs.List.{fold}
+use Rattle.base.proofs.ListLaws.{fold_wraps}
 use Rattle.base.proofs.vectors.sum_of.Goals as goal
-
-pub loop-c-init : goal.loop-c-init
-loop-c-init c = (search rules, wraps-none _)
-
-pub loop-c-preserved : goal.loop-c-preserved
-loop-c-preserved c =
-    (search rules, wraps-more _ c.loop-c.c _ (at c.args.list.now) c.loop-c.invariant.1 c.wrapping_add_u64-sum.ensures.value)
 
 pub returns : goal.returns
 returns c =
-    let end : c.loop-c.c ≡ length c.args.list.now = omega arith in
-    c.loop-c.invariant.1 ∙ ap (λ n. sum_to n (at c.args.list.now) % 2 ^ 64) end
+    let chain : c.fold.result ≡ fold (λ sum number. (sum + number) % 2 ^ 64) 0 c.args.list.now = search rules in
+    chain ∙ fold_wraps _

@@ -9,7 +9,7 @@ loop-c-preserved c =
     let list = c.args.list.now in
     let row = c.args.row.now in
     filling-next (word list row) row _ _ _ c.loop-c.invariant (omega arith)
-    (c.excess.ensures ∙ ap (λ k. k - at list c.loop-c.c) (filling-later (word list row) row _ _ c.loop-c.invariant))
+    (c.saturating_sub.ensures ∙ ap (λ k. k - at list c.loop-c.c) (filling-later (word list row) row _ _ c.loop-c.invariant))
 
 pub returns : goal.returns
 returns c =

@@ -9,6 +9,3 @@ word list row c = at row c - at list c
 
 abbrev pub invariant-loop-c : goal.invariant-loop-c
 invariant-loop-c l = Filling (word l.list l.initial.row) l.initial.row l.row l.c
-
-abbrev pub decreases-loop-c : goal.decreases-loop-c
-decreases-loop-c l = l.count - l.c
