@@ -6,8 +6,10 @@ use Rattle.base.specs.declared.refusals.Refusal.{Refusal}
 use Rattle.base.specs.declared.refusals.Refusal.TheVariants.{SheetLength, Sizes, Records, AboveLimit, Room, NotOrderly, Stage}
 use Rattle.base.specs.declared.refusals.Refusal.TheVariants.{NoSuch, Range, TooMuch, Day, NoneLeft, Lock, Carry}
 use Rattle.base.specs.Answers.{refused, granted}
-use Rattle.base.specs.Refusals.{sheet_length_refused, sizes_refused, records_refused, above_limit_refused, room_refused, not_orderly_refused, stage_refused}
-use Rattle.base.specs.Refusals.{no_such_refused, range_refused, too_much_refused, day_refused, none_left_refused, lock_refused, carry_refused}
+use Rattle.base.specs.Refusals.{sheet_length_refused, sizes_refused, records_refused, above_limit_refused, room_refused}
+use Rattle.base.specs.Refusals.{not_orderly_refused, stage_refused}
+use Rattle.base.specs.Refusals.{no_such_refused, range_refused, too_much_refused, day_refused, none_left_refused}
+use Rattle.base.specs.Refusals.{lock_refused, carry_refused}
 
 -- the number of a refusal
 abbrev pub number_of : Refusal → ℕ
