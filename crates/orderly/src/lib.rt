@@ -10,24 +10,24 @@ mod rows;
 
 ghost use Rattle.std.specs.Prelude.{◌≡◌, ◌≤◌, length};
 ghost use Rattle.base.specs.Limits.{state_words};
+ghost use Rattle.base.specs.Refused.{number_in};
 ghost use Rattle.state.specs.Orderly.{orderly, state_refusal};
 ghost use Rattle.orderly.specs.Workers.Check.{Sized, rows_in_order};
 
 use base::limits::STATE_WORDS;
-use base::refusals;
+use base::refusals::Refusal;
 
-// The refusal that every call of the year begins with: 5 for a state under 16,000 words, 6 for one
-// that is not orderly, else 0.
-pub fn state_refusal(state: &[u32]) -> u32
-    ensures { result ≡ state_refusal state.now }
+// What every call of the year begins with: refusal 5 for a state under 16,000 words, 6 for one that is not orderly.
+pub fn check_state(state: &[u32]) -> Result<(), Refusal>
+    ensures { number_in result ≡ state_refusal state.now }
 {
     if state.len() < STATE_WORDS {
-        return refusals::ROOM;
+        return Err(Refusal::Room);
     }
-    if is_orderly(state) {
-        return 0;
+    if !is_orderly(state) {
+        return Err(Refusal::NotOrderly);
     }
-    refusals::NOT_ORDERLY
+    Ok(())
 }
 
 // Whether a state of 16,000 words is orderly.

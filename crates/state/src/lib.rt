@@ -65,12 +65,9 @@ pub fn stage(state: &[u32]) -> u32
 pub fn of_holder(state: &[u32], field: u32, holder: u32) -> u64
     ensures { result ≡ sum_to (interties state.now) (λ (i : ℕ). at state.now (place (field + holder) i)) }
 {
-    let interties = intertie_count(state);
-    let mut sum: u64 = 0;
-    let mut intertie = 0;
-    while intertie < interties {
-        sum += pair_word(state, field, holder, intertie) as u64;
-        intertie += 1;
+    let mut sum = 0;
+    for intertie in 0..intertie_count(state) {
+        sum += u64::from(pair_word(state, field, holder, intertie));
     }
     sum
 }
@@ -79,13 +76,10 @@ pub fn of_holder(state: &[u32], field: u32, holder: u32) -> u64
 fn read(state: &[u32], place: usize) -> u32
     ensures { result ≡ at state.now place }
 {
-    if place < state.len() {
-        return state[place];
-    }
-    0
+    state.get(place).copied().unwrap_or(0)
 }
 
-// Stores the word at a place: nothing past the end.
+// Stores the word at a place: nothing past the end. (By an index, since a proof loses the words that `get_mut` lent.)
 fn write(state: &mut [u32], place: usize, value: u32)
     ensures { state.new ≡ set state.old place value }
 {

@@ -62,6 +62,10 @@ pub fill_row-none : (row : ℕ) (f : ℕ → ℕ) (s : List ℕ) → fill_row ro
 unfolding fill_row
 fill_row-none row f s = refl
 
+-- the end of such a loop
+pub fill_row_done : (row n m : ℕ) (f : ℕ → ℕ) (s g : List ℕ) → g ≡ fill_row row n f s → n ≤ m → m ≤ n → g ≡ fill_row row m f s
+fill_row_done row n m f s g e a b = let same : n ≡ m = omega arith in rw (← same) e
+
 -- the same values write the same row
 pub fill_row-same : (row n : ℕ) (f g : ℕ → ℕ) (s : List ℕ) → ((c : ℕ) → c < n → f c ≡ g c) → fill_row row n f s ≡ fill_row row n g s
 unfolding fill_row
@@ -121,6 +125,9 @@ at-fill_pairs-past field (suc m) n f s r c most l past =
 pub fill_pairs-none : (field n : ℕ) (f : ℕ → ℕ → ℕ) (s : List ℕ) → fill_pairs field 0 n f s ≡ s
 unfolding fill_pairs
 fill_pairs-none field n f s = refl
+
+pub fill_pairs_done : (field n m interties : ℕ) (f : ℕ → ℕ → ℕ) (s g : List ℕ) → g ≡ fill_pairs field n interties f s → n ≤ m → m ≤ n → g ≡ fill_pairs field m interties f s
+fill_pairs_done field n m interties f s g e a b = let same : n ≡ m = omega arith in rw (← same) e
 
 -- a turn of a loop that writes a field row by row
 pub fill_pairs-turn : (field m n : ℕ) (f : ℕ → ℕ → ℕ) (s g : List ℕ) → g ≡ fill_pairs field m n f s →

@@ -1,8 +1,8 @@
 // Whole rows of the year's state, written at once. Apart from state for the prover's time.
 #![tactic(auto)]
 
-ghost use Rattle.std.specs.Prelude.{◌≡◌, ℕ, ◌+◌, ◌*◌, ◌≤◌, ◌<◌, length};
-ghost use Rattle.base.specs.Limits.{state_words, most_interties};
+ghost use Rattle.std.specs.Prelude.{◌≡◌, ℕ, ◌+◌, ◌*◌, ◌^◌, ◌≤◌, ◌<◌, length};
+ghost use Rattle.base.specs.Limits.{state_words, most_interties, most_holders};
 ghost use Rattle.base.specs.Words.{at};
 ghost use Rattle.state.specs.Layout.{row_words, place, whole_rows};
 ghost use Rattle.state_rows.specs.Rows.{fill_row, fill_pairs, low32, fit_row, fit_field, fit_pairs};
@@ -14,17 +14,93 @@ use state::layout::{LAST_ROW, ROW_WORDS, WHOLE_ROWS};
 // 2^32: how many values a word has.
 const WORD_VALUES: u64 = 4_294_967_296;
 
-// Writes values, from one of them on, over the first columns of a row.
-fn write_row(state: &mut [u32], row: usize, count: usize, values: &[u64], from: usize)
-    requires { (state_words ≤ length state.old) × (row < whole_rows) × (count ≤ row_words) × (from + count ≤ length values.now) }
-    ensures { state.new
-        ≡ fill_row row count (λ (c : ℕ). low32 (at values.now (from + c))) state.old }
+// How a word of the state is changed by what stands at a place of a table.
+trait Change {
+    // The places that the table has.
+    ghost places: { Self → ℕ };
+
+    // What a word becomes by the value at a place.
+    ghost gives: { Self → ℕ → ℕ → ℕ };
+
+    fn change(&self, word: u32, at: usize) -> u32
+        requires { at < places self.now }
+        ensures { result ≡ gives self.now word at };
+}
+
+// A value takes the word's place, of one over 32 bits its low ones.
+#[derive(Clone, Copy)]
+struct Stored<'a> {
+    values: &'a [u64],
+}
+
+impl<'a> Change for Stored<'a> {
+    ghost places = { λ table. length table.values.now };
+
+    ghost gives = { λ table word p. low32 (at table.values.now p) };
+
+    fn change(&self, _word: u32, at: usize) -> u32 {
+        (self.values[at] % WORD_VALUES) as u32
+    }
+}
+
+// The word is raised by a value, in 32 bits.
+#[derive(Clone, Copy)]
+struct Raised<'a> {
+    values: &'a [u64],
+}
+
+impl<'a> Change for Raised<'a> {
+    ghost places = { λ table. length table.values.now };
+
+    ghost gives = { λ table word p. low32 (word + low32 (at table.values.now p)) };
+
+    fn change(&self, word: u32, at: usize) -> u32 {
+        ((u64::from(word) + self.values[at] % WORD_VALUES) % WORD_VALUES) as u32
+    }
+}
+
+// The word becomes 0.
+#[derive(Clone, Copy)]
+struct Cleared;
+
+impl Change for Cleared {
+    ghost places = { λ table. row_words * most_holders };
+
+    ghost gives = { λ table word p. 0 };
+
+    fn change(&self, _word: u32, _at: usize) -> u32 {
+        0
+    }
+}
+
+// Changes the first columns of a row by a table, from one of its places on.
+fn change_row<C: Change>(state: &mut [u32], row: usize, count: usize, table: &C, from: usize)
+    requires { (state_words ≤ length state.old) × (row < whole_rows) × (count ≤ row_words) × (from + count ≤ C.places table.now)
+        × (from + count < 2 ^ 64) }
+    ensures { let s = state.old in state.new
+        ≡ fill_row row count (λ c. C.gives table.now (at s (place row c)) (from + c)) s }
 {
     let first = ROW_WORDS * row;
-    let mut column = 0;
-    while column < count {
-        state[first + column] = (values[from + column] % WORD_VALUES) as u32;
-        column += 1;
+    for column in 0..count {
+        state[first + column] = table.change(state[first + column], from + column);
+    }
+}
+
+// Changes the first columns of as many rows by the rows of a table, 48 places a row.
+fn change_rows<C: Change>(
+    state: &mut [u32],
+    field: usize,
+    holders: usize,
+    interties: usize,
+    table: &C,
+)
+    requires { (state_words ≤ length state.old) × (field + holders ≤ whole_rows) × (interties ≤ most_interties)
+        × (row_words * holders ≤ C.places table.now) }
+    ensures { let s = state.old in state.new
+        ≡ fill_pairs field holders interties (λ h i. C.gives table.now (at s (place (field + h) i)) (place h i)) s }
+{
+    for holder in 0..holders {
+        change_row(state, field + holder, interties, table, ROW_WORDS * holder);
     }
 }
 
@@ -41,21 +117,7 @@ pub fn store_row(state: &mut [u32], row: usize, count: usize, values: &[u64])
     ensures { state.new ≡ stored_row row count values.now state.old }
 {
     if fits_row(state.len(), row, count, values.len()) {
-        write_row(state, row, count, values, 0);
-    }
-}
-
-// Writes the rows of a table, 48 values a row, over the first columns of as many rows.
-fn write_rows(state: &mut [u32], field: usize, holders: usize, interties: usize, values: &[u64])
-    requires { (state_words ≤ length state.old) × (field + holders ≤ whole_rows) × (interties ≤ most_interties)
-        × (row_words * holders ≤ length values.now) }
-    ensures { state.new
-        ≡ fill_pairs field holders interties (λ (h i : ℕ). low32 (at values.now (place h i))) state.old }
-{
-    let mut holder = 0;
-    while holder < holders {
-        write_row(state, field + holder, interties, values, ROW_WORDS * holder);
-        holder += 1;
+        change_row(state, row, count, &Stored { values }, 0);
     }
 }
 
@@ -88,42 +150,7 @@ pub fn store_pairs(
     ensures { state.new ≡ stored_pairs field holders interties values.now state.old }
 {
     if fits_pairs(state.len(), field, holders, interties, values.len()) {
-        write_rows(state, field, holders, interties, values);
-    }
-}
-
-// A word raised by a value, both in 32 bits.
-fn raised(word: u32, value: u64) -> u32
-    ensures { result ≡ low32 (word + low32 value) }
-{
-    (((word as u64) + value % WORD_VALUES) % WORD_VALUES) as u32
-}
-
-// Raises the first columns of a row by values, from one of them on.
-fn raise_row(state: &mut [u32], row: usize, count: usize, values: &[u64], from: usize)
-    requires { (state_words ≤ length state.old) × (row < whole_rows) × (count ≤ row_words) × (from + count ≤ length values.now) }
-    ensures { let s = state.old in state.new
-        ≡ fill_row row count (λ (c : ℕ). low32 (at s (place row c) + low32 (at values.now (from + c)))) s }
-{
-    let first = ROW_WORDS * row;
-    let mut column = 0;
-    while column < count {
-        state[first + column] = raised(state[first + column], values[from + column]);
-        column += 1;
-    }
-}
-
-// Raises the first columns of as many rows by the rows of a table, 48 values a row.
-fn raise_rows(state: &mut [u32], field: usize, holders: usize, interties: usize, values: &[u64])
-    requires { (state_words ≤ length state.old) × (field + holders ≤ whole_rows) × (interties ≤ most_interties)
-        × (row_words * holders ≤ length values.now) }
-    ensures { let s = state.old in let table = values.now in state.new
-        ≡ fill_pairs field holders interties (λ (h i : ℕ). low32 (at s (place (field + h) i) + low32 (at table (place h i)))) s }
-{
-    let mut holder = 0;
-    while holder < holders {
-        raise_row(state, field + holder, interties, values, ROW_WORDS * holder);
-        holder += 1;
+        change_rows(state, field, holders, interties, &Stored { values });
     }
 }
 
@@ -139,32 +166,7 @@ pub fn raise_pairs(
     ensures { state.new ≡ raised_pairs field holders interties values.now state.old }
 {
     if fits_pairs(state.len(), field, holders, interties, values.len()) {
-        raise_rows(state, field, holders, interties, values);
-    }
-}
-
-// Clears the first columns of a row.
-fn clear_row(state: &mut [u32], row: usize, count: usize)
-    requires { (state_words ≤ length state.old) × (row < whole_rows) × (count ≤ row_words) }
-    ensures { state.new ≡ fill_row row count (λ (c : ℕ). 0) state.old }
-{
-    let first = ROW_WORDS * row;
-    let mut column = 0;
-    while column < count {
-        state[first + column] = 0;
-        column += 1;
-    }
-}
-
-// Clears the first columns of as many rows.
-fn clear_rows(state: &mut [u32], field: usize, holders: usize, interties: usize)
-    requires { (state_words ≤ length state.old) × (field + holders ≤ whole_rows) × (interties ≤ most_interties) }
-    ensures { state.new ≡ fill_pairs field holders interties (λ (h i : ℕ). 0) state.old }
-{
-    let mut holder = 0;
-    while holder < holders {
-        clear_row(state, field + holder, interties);
-        holder += 1;
+        change_rows(state, field, holders, interties, &Raised { values });
     }
 }
 
@@ -174,6 +176,6 @@ pub fn clear_pairs(state: &mut [u32], field: usize, holders: usize, interties: u
     ensures { state.new ≡ cleared_pairs field holders interties state.old }
 {
     if fits_field(state.len(), field, holders, interties) {
-        clear_rows(state, field, holders, interties);
+        change_rows(state, field, holders, interties, &Cleared);
     }
 }

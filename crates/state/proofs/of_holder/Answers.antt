@@ -6,18 +6,17 @@ use Rattle.state.proofs.of_holder.Goals as goal
 pub loop-intertie-init : goal.loop-intertie-init
 loop-intertie-init c =
     let a = c.args in
-    (search rules, sym (sum_to-zero (pairs a.state.now a.field a.holder)), search rules)
+    (sym (sum_to-zero (pairs a.state.now a.field a.holder)), search rules)
 
 pub loop-intertie-preserved : goal.loop-intertie-preserved
 loop-intertie-preserved c =
     let a = c.args in (
-      search rules,
-      omega (arith, c.loop-intertie.invariant.1, c.pair_word.ensures, sum_to-more c.loop-intertie.intertie (pairs a.state.now a.field a.holder)),
+      omega (arith, c.loop-intertie.invariant.0, c.pair_word.ensures, sum_to-more c.loop-intertie.intertie (pairs a.state.now a.field a.holder)),
       search rules,
     )
 
 pub returns : goal.returns
 returns c =
     let a = c.args in
-    let end : c.loop-intertie.intertie ≡ c.intertie_count-interties.result = omega arith in
-    c.loop-intertie.invariant.1 ∙ ap (λ n. sum_to n (pairs a.state.now a.field a.holder)) (end ∙ c.intertie_count-interties.ensures)
+    let end : c.loop-intertie.intertie ≡ c.intertie_count-intertie-end.result = omega arith in
+    c.loop-intertie.invariant.0 ∙ ap (λ n. sum_to n (pairs a.state.now a.field a.holder)) (end ∙ c.intertie_count-intertie-end.ensures)

@@ -9,7 +9,5 @@ pairs state field holder i = at state (place (field + holder) i)
 
 abbrev pub invariant-loop-intertie : goal.invariant-loop-intertie
 invariant-loop-intertie l =
-    (l.intertie ≤ l.interties) × (l.sum ≡ sum_to l.intertie (pairs l.state l.field l.holder)) × (l.sum ≤ l.intertie * 4294967295)
+    (l.sum ≡ sum_to l.intertie (pairs l.state l.field l.holder)) × (l.sum ≤ l.intertie * 4294967295)
 
-abbrev pub decreases-loop-intertie : goal.decreases-loop-intertie
-decreases-loop-intertie l = l.interties - l.intertie
