@@ -8,6 +8,9 @@ use lib.Dec.{T, ltb, eqb-suc-zero, ltb→lt}
 use borrow.Author.Tests.{ne_eqb}
 use Rattle.base.specs.Answers.{refused}
 use Rattle.base.specs.declared.Answer.{Answer}
+use Rattle.base.specs.declared.refusals.Refusal.{Refusal}
+use Rattle.base.specs.declared.refusals.Refusal.TheVariants.{SheetLength, Sizes, Records, AboveLimit, Room, NotOrderly, Stage, NoSuch, Range, TooMuch, Day, NoneLeft, Lock, Carry}
+use Rattle.base.specs.Refused.{number_of}
 use Rattle.call.specs.Outcome.{Outcome, decided, or_else, whenever}
 
 -- a function that tries the numbers in turn, return by return: it stops at the first that applies, and passes the others
@@ -32,6 +35,42 @@ last-passes b condition number e f = rw (← e, f)
 
 -- the rules by which `search` closes each return
 pub ruleset turns = (tt, state-stops, state-passes, test-stops, test-passes, last-stops, last-passes)
+
+-- a function that tries refusals in turn by `?`: it passes one that doesn't apply, and stops at the first that does
+pub number-pos : (refusal : Refusal) → 0 < number_of refusal
+number-pos SheetLength = omega arith
+number-pos Sizes = omega arith
+number-pos Records = omega arith
+number-pos AboveLimit = omega arith
+number-pos Room = omega arith
+number-pos NotOrderly = omega arith
+number-pos Stage = omega arith
+number-pos NoSuch = omega arith
+number-pos Range = omega arith
+number-pos TooMuch = omega arith
+number-pos Day = omega arith
+number-pos NoneLeft = omega arith
+number-pos Lock = omega arith
+number-pos Carry = omega arith
+
+pub passes : (first rest r : ℕ) → 0 ≡ first → r ≡ rest → r ≡ or_else first rest
+passes first rest r e t = rw (← e) t
+
+pub stops : (refusal : Refusal) (first rest : ℕ) → number_of refusal ≡ first → number_of refusal ≡ or_else first rest
+stops refusal first rest e =
+    rw (← e, ne_eqb (number_of refusal) 0 (λ (z : number_of refusal ≡ 0). omega (arith, number-pos refusal)))
+
+-- what a call that tried its refusals so answers and leaves: it is refused, or done
+module _ (number : ℕ) (s : List ℕ) (done : Outcome) where
+  pub is_refused : (refusal : Refusal) → number_of refusal ≡ number →
+      (refused (number_of refusal) ≡ (decided number s done).answer) × (s ≡ (decided number s done).state)
+  is_refused refusal e =
+      let some : number_of refusal ≡ 0 → ⊥ = λ z. omega (arith, number-pos refusal) in
+      (rw (← e, ne_eqb (number_of refusal) 0 some) refl, rw (← e, ne_eqb (number_of refusal) 0 some) refl)
+
+  pub is_done : (r : Answer) (t : List ℕ) → 0 ≡ number → r ≡ done.answer → t ≡ done.state →
+      (r ≡ (decided number s done).answer) × (t ≡ (decided number s done).state)
+  is_done r t e told left = (rw (← e) told, rw (← e) left)
 
 -- where none of two applies, the first doesn't and the second doesn't
 pub none_first : (first second : ℕ) → or_else first second ≡ 0 → first ≡ 0

@@ -1,7 +1,15 @@
 -- The conditions that calls share, by the numbers of their refusals (docs/RULES.md, "Refusals").
 use Rattle.std.specs.Prelude.{ℕ, List, Bool, not, ◌&&◌, ◌||◌, leb, eqb}
 use Rattle.base.specs.Limits.{most_kw, most_years}
-use Rattle.state.specs.Layout.{interties, holders}
+use Rattle.base.specs.Refusals.{stage_refused}
+use Rattle.base.specs.Stages.{open_stage}
+use Rattle.state.specs.Layout.{interties, holders, stage_of}
+use Rattle.state.specs.Orderly.{state_refusal}
+use Rattle.call.specs.Outcome.{or_else, whenever}
+
+-- 5 to 7 of a call in stage 4
+abbrev pub open_refusal : List ℕ → ℕ
+open_refusal s = or_else (state_refusal s) (whenever (not (eqb (stage_of s) open_stage)) stage_refused)
 
 -- 8: no such holder, no such intertie
 abbrev pub no_holder : List ℕ → ℕ → Bool

@@ -4,30 +4,35 @@
 ghost use Rattle.std.specs.Prelude.{◌≡◌, not, eqb};
 ghost use Rattle.base.specs.Stages.{open_stage};
 ghost use Rattle.state.specs.Layout.{stage_of};
-ghost use Rattle.call.specs.Outcome.{or_else, whenever};
-ghost use Rattle.call.specs.Tests.{no_holder, no_intertie, no_pair, unfit_parties, bad_kw, bad_term};
+ghost use Rattle.base.specs.Refused.{number_of as refusal_number, number_in};
+ghost use Rattle.base.specs.Stage.{number_of};
+ghost use Rattle.call.specs.Outcome.{whenever};
+ghost use Rattle.call.specs.Tests.{open_refusal, no_holder, no_intertie, no_pair, unfit_parties, bad_kw, bad_term};
 
-use base::{limits, stages};
+use base::limits;
+use base::refusals::Refusal;
+use base::stages::Stage;
 
-// The lower of two refusals that are tried in turn: the second where the first is 0.
-pub fn or_else(first: u32, second: u32) -> u32
-    ensures { result ≡ or_else first second }
+// A refusal where its condition holds.
+pub fn refuse_if(condition: bool, refusal: Refusal) -> Result<(), Refusal>
+    ensures { number_in result ≡ whenever condition (refusal_number refusal) }
 {
-    if first == 0 { second } else { first }
+    if condition { Err(refusal) } else { Ok(()) }
 }
 
-// A refusal's number where its condition holds, else 0.
-pub fn whenever(condition: bool, number: u32) -> u32
-    ensures { result ≡ whenever condition number }
+// Refusals 5 to 7 of a call in stage 4: the state is short or not orderly, or the stage is another.
+pub fn check_open(state: &[u32]) -> Result<(), Refusal>
+    ensures { number_in result ≡ open_refusal state.now }
 {
-    if condition { number } else { 0 }
+    orderly::check_state(state)?;
+    refuse_if(!is_stage(state, Stage::Open), Refusal::Stage)
 }
 
-// Refusal 7: whether the stage is not 4, open.
-pub fn not_open(state: &[u32]) -> bool
-    ensures { result ≡ not (eqb (stage_of state.now) open_stage) }
+// Whether a state is of a stage.
+pub fn is_stage(state: &[u32], stage: Stage) -> bool
+    ensures { result ≡ eqb (stage_of state.now) (number_of stage) }
 {
-    state::stage(state) != stages::OPEN
+    state::stage(state) == stage.number()
 }
 
 // Refusal 8: whether the state has no such holder.

@@ -3,102 +3,87 @@
 
 ghost use Rattle.std.specs.Prelude.{◌≡◌, not, ◌||◌, ◌-◌, ◌≤◌, ltb, eqb};
 ghost use Rattle.base.specs.Limits.{most_interties, most_kw};
+ghost use Rattle.base.specs.Refused.{number_in, answer_of};
 ghost use Rattle.base.specs.Stages.{second_requests_stage, open_stage};
 ghost use Rattle.state.specs.Layout.{interties, stage_of, placed_of, locked_of};
 ghost use Rattle.call.specs.Tests.{no_intertie, unfit_parties, bad_kw, bad_term};
 ghost use Rattle.holding.specs.Move.{move_refusal, move};
 ghost use Rattle.holding.specs.Lock.{past_three_quarters, lock_refusal, lock};
 
-use base::numbers::excess;
-use base::{Answer, refusals, stages};
+use base::Granted;
+use base::refusals::Refusal;
+use base::stages::Stage;
 use state::layout;
 
 // Moves placed kW above locked from a holder to another on an intertie, in stages 3 and 4.
-pub fn move_kw(state: &mut [u32], giver: u32, taker: u32, intertie: u32, kw: u64) -> Answer
+#[tactic(auto, using(call::proofs::LadderLaws::is_refused))]
+pub fn move_kw(
+    state: &mut [u32],
+    giver: u32,
+    taker: u32,
+    intertie: u32,
+    kw: u64,
+) -> Result<Granted, Refusal>
     ensures { let done = move state.old giver taker intertie kw in
-        (result ≡ done.answer) × (state.new ≡ done.state) }
+        (answer_of result ≡ done.answer) × (state.new ≡ done.state) }
 {
-    let refusal = move_refusal(state, giver, taker, intertie, kw);
-    if refusal != 0 {
-        return Answer::refused(refusal);
-    }
+    check_move(state, giver, taker, intertie, kw)?;
     let moved = kw as u32;
     let given = state::pair_word(state, layout::PLACED, giver, intertie);
     let held = state::pair_word(state, layout::PLACED, taker, intertie);
     state::store_pair(state, layout::PLACED, giver, intertie, given - moved);
     state::store_pair(state, layout::PLACED, taker, intertie, held + moved);
-    Answer::granted(kw, 0)
+    Ok(Granted { kw, passes: 0 })
 }
 
 // Locks placed kW of a pair for a term of 1 to 30 years, in stage 4.
-pub fn lock(state: &mut [u32], holder: u32, intertie: u32, kw: u64, term: u32) -> Answer
+#[tactic(auto, using(call::proofs::LadderLaws::is_refused, call::proofs::LadderLaws::is_done), unfolding(crate::specs::Lock::lock))]
+pub fn lock(
+    state: &mut [u32],
+    holder: u32,
+    intertie: u32,
+    kw: u64,
+    term: u32,
+) -> Result<Granted, Refusal>
     ensures { let done = lock state.old holder intertie kw term in
-        (result ≡ done.answer) × (state.new ≡ done.state) }
+        (answer_of result ≡ done.answer) × (state.new ≡ done.state) }
 {
-    let refusal = lock_refusal(state, holder, intertie, kw, term);
-    if refusal != 0 {
-        return Answer::refused(refusal);
-    }
+    check_lock(state, holder, intertie, kw, term)?;
     state::store_pair(state, layout::LOCKED, holder, intertie, kw as u32);
     state::store_pair(state, layout::TERM, holder, intertie, term);
-    Answer::granted(kw, 0)
+    Ok(Granted { kw, passes: 0 })
 }
 
-// The lowest number that applies to a move, 0 if none.
-fn move_refusal(state: &[u32], giver: u32, taker: u32, intertie: u32, kw: u64) -> u32
-    ensures { result ≡ move_refusal state.now giver taker intertie kw }
+// The first refusal that applies to a move.
+#[tactic(auto, using(call::proofs::LadderLaws::passes, call::proofs::LadderLaws::stops), unfolding(crate::specs::Move::move_refusal))]
+fn check_move(state: &[u32], giver: u32, taker: u32, intertie: u32, kw: u64) -> Result<(), Refusal>
+    ensures { number_in result ≡ move_refusal state.now giver taker intertie kw }
 {
-    let unfit = orderly::state_refusal(state);
-    if unfit != 0 {
-        return unfit;
-    }
-    if no_moves(state) {
-        return refusals::STAGE;
-    }
-    if unfit_move(state, giver, taker, intertie) {
-        return refusals::NO_SUCH;
-    }
-    if call::bad_kw(kw) {
-        return refusals::RANGE;
-    }
-    if over_movable(state, giver, intertie, kw) {
-        return refusals::TOO_MUCH;
-    }
-    0
+    orderly::check_state(state)?;
+    call::refuse_if(no_moves(state), Refusal::Stage)?;
+    call::refuse_if(unfit_move(state, giver, taker, intertie), Refusal::NoSuch)?;
+    call::refuse_if(call::bad_kw(kw), Refusal::Range)?;
+    call::refuse_if(over_movable(state, giver, intertie, kw), Refusal::TooMuch)
 }
 
-// The lowest number that applies to a lock, 0 if none.
-fn lock_refusal(state: &[u32], holder: u32, intertie: u32, kw: u64, term: u32) -> u32
-    ensures { result ≡ lock_refusal state.now holder intertie kw term }
+// The first refusal that applies to a lock.
+#[tactic(auto, using(call::proofs::LadderLaws::passes, call::proofs::LadderLaws::stops), unfolding(crate::specs::Lock::lock_refusal))]
+fn check_lock(state: &[u32], holder: u32, intertie: u32, kw: u64, term: u32) -> Result<(), Refusal>
+    ensures { number_in result ≡ lock_refusal state.now holder intertie kw term }
 {
-    let unfit = orderly::state_refusal(state);
-    if unfit != 0 {
-        return unfit;
-    }
-    if call::not_open(state) {
-        return refusals::STAGE;
-    }
-    if call::no_pair(state, holder, intertie) {
-        return refusals::NO_SUCH;
-    }
-    if unfit_lock(kw, term) {
-        return refusals::RANGE;
-    }
-    if over_placed(state, holder, intertie, kw) {
-        return refusals::TOO_MUCH;
-    }
-    if barred(state, holder, intertie, kw) {
-        return refusals::LOCK;
-    }
-    0
+    orderly::check_state(state)?;
+    call::refuse_if(!call::is_stage(state, Stage::Open), Refusal::Stage)?;
+    call::refuse_if(call::no_pair(state, holder, intertie), Refusal::NoSuch)?;
+    call::refuse_if(unfit_lock(kw, term), Refusal::Range)?;
+    call::refuse_if(over_placed(state, holder, intertie, kw), Refusal::TooMuch)?;
+    call::refuse_if(barred(state, holder, intertie, kw), Refusal::Lock)
 }
 
 // Refusal 7: whether the stage has no moves.
 fn no_moves(state: &[u32]) -> bool
     ensures { let stage = stage_of state.now in result ≡ not (eqb stage second_requests_stage || eqb stage open_stage) }
 {
-    let stage = state::stage(state);
-    !((stage == stages::SECOND_REQUESTS) | (stage == stages::OPEN))
+    !(call::is_stage(state, Stage::SecondRequests) | call::is_stage(state, Stage::Open))
 }
 
 // Refusal 8: whether the parties of a move are unfit, or there is no such intertie.
@@ -114,7 +99,7 @@ fn movable(state: &[u32], holder: u32, intertie: u32) -> u64
 {
     let placed = state::pair_word(state, layout::PLACED, holder, intertie) as u64;
     let locked = state::pair_word(state, layout::LOCKED, holder, intertie) as u64;
-    excess(placed, locked)
+    placed.saturating_sub(locked)
 }
 
 // Refusal 10: whether kW are more than the holder has placed above locked.

@@ -12,7 +12,6 @@ use super::rows::{row_within, row_word};
 use base::limits;
 use base::limits::MOST_INTERTIES;
 use state::layout;
-use std::num::wrapping_add_u32;
 
 const MOST_KW: u32 = limits::MOST_KW as u32;
 
@@ -29,8 +28,8 @@ fn pair_kw(state: &[u32], holder: u32, intertie: usize) -> u32
     let new_use = row_word(state, layout::NEW_USE + holder, intertie);
     let placed = row_word(state, layout::PLACED + holder, intertie);
     let taken = row_word(state, layout::TAKEN + holder, intertie);
-    let reserved = wrapping_add_u32(wrapping_add_u32(existing, pre_ra), new_use);
-    wrapping_add_u32(wrapping_add_u32(reserved, placed), taken)
+    let reserved = existing.wrapping_add(pre_ra).wrapping_add(new_use);
+    reserved.wrapping_add(placed).wrapping_add(taken)
 }
 
 // The bits of the words that make up a pair's kW, and of the kW.
@@ -56,7 +55,7 @@ fn add_holder(state: &[u32], holder: u32, sums: &mut [u32; MOST_INTERTIES]) -> u
     let mut bits: u32 = 0;
     for intertie in 0..state::intertie_count(state) as usize {
         bits = bits | pair_bits(state, holder, intertie);
-        sums[intertie] = wrapping_add_u32(sums[intertie], pair_kw(state, holder, intertie));
+        sums[intertie] = sums[intertie].wrapping_add(pair_kw(state, holder, intertie));
     }
     bits
 }
@@ -66,10 +65,7 @@ fn two_kw(state: &[u32], holder: u32, intertie: usize) -> u32
     requires { (state_words ≤ length state.now) × (holder + 1 < most_holders) × (intertie < most_interties) }
     ensures { result ≡ two_kw state.now holder intertie % 2 ^ 32 }
 {
-    wrapping_add_u32(
-        pair_kw(state, holder, intertie),
-        pair_kw(state, holder + 1, intertie),
-    )
+    pair_kw(state, holder, intertie).wrapping_add(pair_kw(state, holder + 1, intertie))
 }
 
 // The bits of these pairs.
@@ -90,7 +86,7 @@ fn add_two(state: &[u32], holder: u32, sums: &mut [u32; MOST_INTERTIES]) -> u32
     let mut bits: u32 = 0;
     for intertie in 0..state::intertie_count(state) as usize {
         bits = bits | two_bits(state, holder, intertie);
-        sums[intertie] = wrapping_add_u32(sums[intertie], two_kw(state, holder, intertie));
+        sums[intertie] = sums[intertie].wrapping_add(two_kw(state, holder, intertie));
     }
     bits
 }

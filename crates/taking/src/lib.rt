@@ -3,13 +3,15 @@
 
 ghost use Rattle.std.specs.Prelude.{◌≡◌, ◌+◌, ◌-◌, ◌<◌, ◌≤◌, ◌^◌, eqb, set};
 ghost use Rattle.base.specs.Limits.{most_takings};
+ghost use Rattle.base.specs.Refused.{number_in, answer_of};
 ghost use Rattle.state.specs.Layout.{unassigned_at, unassigned_of, taken_at, taken_of};
 ghost use Rattle.taking.specs.Calendar.{week_of, count_in, refuses_day, after_taking};
 ghost use Rattle.taking.specs.Take.{calendar_of, take_refusal, take_kw, with_calendar, take};
 
+use base::Granted;
 use base::limits::{MOST_TAKINGS, WEEK_DAYS};
-use base::numbers::smaller;
-use base::{Answer, refusals};
+use base::refusals::Refusal;
+use base::stages::Stage;
 use state::layout;
 
 // The calendar of a holder's takings: the day of the last one, whoever's it was, the week of the
@@ -51,45 +53,39 @@ impl Calendar {
 }
 
 // Takes kW that are unassigned on an intertie: the smaller of those named and those there are.
-pub fn take(state: &mut [u32], holder: u32, intertie: u32, kw: u64, day: u32) -> Answer
+#[tactic(auto, using(call::proofs::LadderLaws::is_refused, call::proofs::LadderLaws::is_done), unfolding(crate::specs::Take::take))]
+pub fn take(
+    state: &mut [u32],
+    holder: u32,
+    intertie: u32,
+    kw: u64,
+    day: u32,
+) -> Result<Granted, Refusal>
     ensures { let done = take state.old holder intertie kw day in
-        (result ≡ done.answer) × (state.new ≡ done.state) }
+        (answer_of result ≡ done.answer) × (state.new ≡ done.state) }
 {
-    let refusal = take_refusal(state, holder, intertie, kw, day);
-    if refusal != 0 {
-        return Answer::refused(refusal);
-    }
+    check_take(state, holder, intertie, kw, day)?;
     let calendar = calendar_after(state, holder, day);
     let granted = take_kw(state, intertie, kw);
     give(state, holder, intertie, granted as u32);
     keep_calendar(state, holder, calendar);
-    Answer::granted(granted, 0)
+    Ok(Granted {
+        kw: granted,
+        passes: 0,
+    })
 }
 
-// The lowest number that applies to a taking, 0 if none.
-fn take_refusal(state: &[u32], holder: u32, intertie: u32, kw: u64, day: u32) -> u32
-    ensures { result ≡ take_refusal state.now holder intertie kw day }
+// The first refusal that applies to a taking.
+#[tactic(auto, using(call::proofs::LadderLaws::passes, call::proofs::LadderLaws::stops), unfolding(crate::specs::Take::take_refusal))]
+fn check_take(state: &[u32], holder: u32, intertie: u32, kw: u64, day: u32) -> Result<(), Refusal>
+    ensures { number_in result ≡ take_refusal state.now holder intertie kw day }
 {
-    let unfit = orderly::state_refusal(state);
-    if unfit != 0 {
-        return unfit;
-    }
-    if call::not_open(state) {
-        return refusals::STAGE;
-    }
-    if call::no_pair(state, holder, intertie) {
-        return refusals::NO_SUCH;
-    }
-    if call::bad_kw(kw) {
-        return refusals::RANGE;
-    }
-    if day_refused(state, holder, day) {
-        return refusals::DAY;
-    }
-    if none_unassigned(state, intertie) {
-        return refusals::NONE_LEFT;
-    }
-    0
+    orderly::check_state(state)?;
+    call::refuse_if(!call::is_stage(state, Stage::Open), Refusal::Stage)?;
+    call::refuse_if(call::no_pair(state, holder, intertie), Refusal::NoSuch)?;
+    call::refuse_if(call::bad_kw(kw), Refusal::Range)?;
+    call::refuse_if(day_refused(state, holder, day), Refusal::Day)?;
+    call::refuse_if(none_unassigned(state, intertie), Refusal::NoneLeft)
 }
 
 // The calendar of a holder.
@@ -129,7 +125,7 @@ fn none_unassigned(state: &[u32], intertie: u32) -> bool
 fn take_kw(state: &[u32], intertie: u32, kw: u64) -> u64
     ensures { result ≡ take_kw state.now intertie kw }
 {
-    smaller(kw, state::word(state, layout::UNASSIGNED, intertie) as u64)
+    kw.min(u64::from(state::word(state, layout::UNASSIGNED, intertie)))
 }
 
 // Gives unassigned kW of an intertie to a holder, into taken.

@@ -4,91 +4,64 @@
 
 ghost use Rattle.std.specs.Prelude.{◌≡◌, not, ◌||◌, ◌+◌, ◌<◌, ltb, eqb};
 ghost use Rattle.base.specs.Limits.{most_holders};
+ghost use Rattle.base.specs.Refused.{number_in, answer_of};
 ghost use Rattle.base.specs.Stages.{trading_stage, first_requests_stage, second_requests_stage};
 ghost use Rattle.state.specs.Layout.{stage_of, unplaced_of, pending_of, of_holder};
 ghost use Rattle.trading.specs.Trade.{trade_refusal, with_seller, trade_state, trade};
 ghost use Rattle.trading.specs.Request.{request_refusal, request_state, request};
 
-use base::{Answer, refusals, stages};
+use base::Granted;
+use base::refusals::Refusal;
+use base::stages::Stage;
 use state::layout;
 
 // Trade: unplaced kW from one holder to another, in stage 1. The seller joins the buyer's sellers.
-pub fn trade(state: &mut [u32], seller: u32, buyer: u32, kw: u64) -> Answer
+#[tactic(auto, using(call::proofs::LadderLaws::is_refused, call::proofs::LadderLaws::is_done), unfolding(crate::specs::Trade::trade))]
+pub fn trade(state: &mut [u32], seller: u32, buyer: u32, kw: u64) -> Result<Granted, Refusal>
     ensures { let done = trade state.old seller buyer kw in
-        (result ≡ done.answer) × (state.new ≡ done.state) }
+        (answer_of result ≡ done.answer) × (state.new ≡ done.state) }
 {
-    let refusal = trade_refusal(state, seller, buyer, kw);
-    if refusal != 0 {
-        return Answer::refused(refusal);
-    }
+    check_trade(state, seller, buyer, kw)?;
     sell(state, seller, buyer, kw);
-    Answer::granted(kw, 0)
+    Ok(Granted { kw, passes: 0 })
 }
 
 // Request: adds to a holder's pending kW on an intertie, in stages 2 and 3.
-pub fn request(state: &mut [u32], holder: u32, intertie: u32, kw: u64) -> Answer
+#[tactic(auto, using(call::proofs::LadderLaws::is_refused, call::proofs::LadderLaws::is_done), unfolding(crate::specs::Request::request))]
+pub fn request(state: &mut [u32], holder: u32, intertie: u32, kw: u64) -> Result<Granted, Refusal>
     ensures { let done = request state.old holder intertie kw in
-        (result ≡ done.answer) × (state.new ≡ done.state) }
+        (answer_of result ≡ done.answer) × (state.new ≡ done.state) }
 {
-    let refusal = request_refusal(state, holder, intertie, kw);
-    if refusal != 0 {
-        return Answer::refused(refusal);
-    }
+    check_request(state, holder, intertie, kw)?;
     add_pending(state, holder, intertie, kw);
-    Answer::granted(kw, 0)
+    Ok(Granted { kw, passes: 0 })
 }
 
-// The lowest number that applies to a trade, 0 if none.
-fn trade_refusal(state: &[u32], seller: u32, buyer: u32, kw: u64) -> u32
-    ensures { result ≡ trade_refusal state.now seller buyer kw }
+// The first refusal that applies to a trade.
+#[tactic(auto, using(call::proofs::LadderLaws::passes, call::proofs::LadderLaws::stops), unfolding(crate::specs::Trade::trade_refusal))]
+fn check_trade(state: &[u32], seller: u32, buyer: u32, kw: u64) -> Result<(), Refusal>
+    ensures { number_in result ≡ trade_refusal state.now seller buyer kw }
 {
-    let unfit = orderly::state_refusal(state);
-    if unfit != 0 {
-        return unfit;
-    }
-    if no_trades(state) {
-        return refusals::STAGE;
-    }
-    if call::unfit_parties(state, seller, buyer) {
-        return refusals::NO_SUCH;
-    }
-    if call::bad_kw(kw) {
-        return refusals::RANGE;
-    }
-    if over_unplaced(state, seller, kw) {
-        return refusals::TOO_MUCH;
-    }
-    0
+    orderly::check_state(state)?;
+    call::refuse_if(!call::is_stage(state, Stage::Trading), Refusal::Stage)?;
+    call::refuse_if(call::unfit_parties(state, seller, buyer), Refusal::NoSuch)?;
+    call::refuse_if(call::bad_kw(kw), Refusal::Range)?;
+    call::refuse_if(over_unplaced(state, seller, kw), Refusal::TooMuch)
 }
 
-// The lowest number that applies to a request, 0 if none.
-fn request_refusal(state: &[u32], holder: u32, intertie: u32, kw: u64) -> u32
-    ensures { result ≡ request_refusal state.now holder intertie kw }
+// The first refusal that applies to a request.
+#[tactic(auto, using(call::proofs::LadderLaws::passes, call::proofs::LadderLaws::stops), unfolding(crate::specs::Request::request_refusal))]
+fn check_request(state: &[u32], holder: u32, intertie: u32, kw: u64) -> Result<(), Refusal>
+    ensures { number_in result ≡ request_refusal state.now holder intertie kw }
 {
-    let unfit = orderly::state_refusal(state);
-    if unfit != 0 {
-        return unfit;
-    }
-    if no_requests(state) {
-        return refusals::STAGE;
-    }
-    if call::no_pair(state, holder, intertie) {
-        return refusals::NO_SUCH;
-    }
-    if call::bad_kw(kw) {
-        return refusals::RANGE;
-    }
-    if over_unplaced_with_pending(state, holder, kw) {
-        return refusals::TOO_MUCH;
-    }
-    0
-}
-
-// Refusal 7: whether the stage has no trades.
-fn no_trades(state: &[u32]) -> bool
-    ensures { result ≡ not (eqb (stage_of state.now) trading_stage) }
-{
-    state::stage(state) != stages::TRADING
+    orderly::check_state(state)?;
+    call::refuse_if(no_requests(state), Refusal::Stage)?;
+    call::refuse_if(call::no_pair(state, holder, intertie), Refusal::NoSuch)?;
+    call::refuse_if(call::bad_kw(kw), Refusal::Range)?;
+    call::refuse_if(
+        over_unplaced_with_pending(state, holder, kw),
+        Refusal::TooMuch,
+    )
 }
 
 // Refusal 7: whether the stage has no requests.
@@ -96,8 +69,7 @@ fn no_requests(state: &[u32]) -> bool
     ensures { let stage = stage_of state.now in
         result ≡ not (eqb stage first_requests_stage || eqb stage second_requests_stage) }
 {
-    let stage = state::stage(state);
-    !((stage == stages::FIRST_REQUESTS) | (stage == stages::SECOND_REQUESTS))
+    !(call::is_stage(state, Stage::FirstRequests) | call::is_stage(state, Stage::SecondRequests))
 }
 
 // Refusal 10: whether kW are more than the holder's unplaced.

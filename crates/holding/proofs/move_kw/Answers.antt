@@ -1,46 +1,32 @@
 -- `move_kw` meets its contract: a refusal leaves the state; else it stores what both holders have placed.
-use Rattle.base.proofs.Prelude.{the, sym, ◌∙◌, arith}
-use Rattle.call.proofs.LadderLaws.{answers-refused, answers-done}
+use Rattle.base.proofs.Prelude.{sym, arith, refl}
+use Rattle.std.proofs.lemmas.Result.{err_from_is_err_and}
+use Rattle.call.proofs.LadderLaws.{is_refused, is_done}
 use Rattle.call.proofs.StoreLaws.{carried}
 use Rattle.state.specs.Layout.{placed_at}
 use Rattle.holding.specs.Move.{move_state, move}
-use Rattle.holding.proofs.MoveLaws.{MoveDone, move-done, move-fits}
+use Rattle.holding.proofs.MoveLaws.{move-done, move-fits}
 use Rattle.holding.proofs.move_kw.Goals as goal
 
-pub returns-then-refusal-ne0 : goal.returns-then-refusal-ne0
+pub returns-in_err-check_move : goal.returns-in_err-check_move
 unfolding move
-returns-then-refusal-ne0 c =
-    answers-refused _ _ _ _ _ c.move_refusal-refusal.ensures c.if-refusal-ne0.true c.refused.ensures
+returns-in_err-check_move c =
+    let p = err_from_is_err_and c.from_residual.result c.from_residual.ensures.1 in
+    rw (p.1, p.2) (is_refused _ _ _ _ c.in_err-check_move.ensures)
 
 pub overflow_sub-given : goal.overflow_sub-given
-overflow_sub-given c =
-    omega (
-      arith,
-      (the (let a = c.args in
-          MoveDone a.state.now a.giver a.taker a.intertie a.kw) (move-done _ _ _ _ _ (sym c.move_refusal-refusal.ensures ∙ c.if-refusal-ne0.false))).enough,
-      c.pair_word-given.ensures,
-    )
+overflow_sub-given c = omega (arith, (move-done _ _ _ _ _ (sym c.in_ok-check_move.ensures)).enough, c.pair_word-given.ensures)
 
 pub overflow_add-held : goal.overflow_add-held
-overflow_add-held c =
-    omega (
-      arith,
-      move-fits _ _ _ _ _ (the (let a = c.args in
-          MoveDone a.state.now a.giver a.taker a.intertie a.kw) (move-done _ _ _ _ _ (sym c.move_refusal-refusal.ensures ∙ c.if-refusal-ne0.false))),
-      c.pair_word-held.ensures,
-    )
+overflow_add-held c = omega (arith, move-fits _ _ _ _ _ (move-done _ _ _ _ _ (sym c.in_ok-check_move.ensures)), c.pair_word-held.ensures)
+
+pub overflow_cast-moved : goal.overflow_cast-moved
+overflow_cast-moved c = omega (arith, (move-done _ _ _ _ _ (sym c.in_ok-check_move.ensures)).kw-most)
 
 pub returns : goal.returns
 unfolding move move_state
 returns c =
     let a = c.args in
-    answers-done _ _ _ _ _ _ c.move_refusal-refusal.ensures c.if-refusal-ne0.false c.granted.ensures
+    is_done _ _ _ _ _ c.in_ok-check_move.ensures refl
     (carried a.state.now (placed_at a.giver a.intertie) (placed_at a.taker a.intertie) a.kw
     c.pair_word-given.ensures c.pair_word-held.ensures c.store_pair.ensures c.store_pair-2.ensures)
-
-pub overflow_cast-moved : goal.overflow_cast-moved
-overflow_cast-moved c = omega (
-  arith,
-  (the (let a = c.args in
-      MoveDone a.state.now a.giver a.taker a.intertie a.kw) (move-done _ _ _ _ _ (sym c.move_refusal-refusal.ensures ∙ c.if-refusal-ne0.false))).kw-most,
-)

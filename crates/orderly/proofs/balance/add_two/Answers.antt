@@ -12,7 +12,7 @@ pub loop-intertie-preserved : goal.loop-intertie-preserved
 loop-intertie-preserved c =
     let l = c.loop-intertie in
     let kept : at l.sums l.intertie ≡ at c.args.sums.now l.intertie = fill-place _ _ _ _ l.invariant.2 in
-    (omega arith, bits-turn _ _ l.bits c.two_bits-bits.result l.invariant.1 c.two_bits-bits.ensures, fill-turn _ _ _ _ _ l.invariant.2 (cc (kept, c.two_kw.ensures, c.wrapping_add_u32.ensures.value)))
+    (omega arith, bits-turn _ _ l.bits c.two_bits-bits.result l.invariant.1 c.two_bits-bits.ensures, fill-turn _ _ _ _ _ l.invariant.2 (cc (kept, c.two_kw.ensures)))
 
 pub returns : goal.returns
 returns c =

@@ -1,5 +1,0 @@
--- `no_trades` meets its contract.
-use Rattle.trading.proofs.no_trades.Goals as goal
-
-pub returns : goal.returns
-returns c = rw c.stage.ensures
