@@ -13,6 +13,9 @@ use Rattle.base.specs.Sums.{sum_to}
 use Rattle.base.specs.Words.{at, fill}
 use Rattle.base.specs.Answers.{refused, granted}
 use Rattle.base.specs.declared.Answer.{Answer}
+use Rattle.base.specs.declared.refusals.Refusal.{Refusal}
+use Rattle.base.specs.Refused.{number_of}
+use Rattle.call.proofs.LadderLaws.{number-pos}
 use Rattle.base.proofs.ChoiceLaws.{and_right}
 use Rattle.base.proofs.SumLaws.{sum_to-same}
 use Rattle.base.proofs.WordLaws.{fill-same, at_fill, length-fill}
@@ -123,14 +126,16 @@ unfolding close
 close-refused s grants some = rw (ne_eqb (close_refusal s grants) 0 some)
 
 -- the same of what a function answered and left, by the number that it found
-pub answers-refused : (s grants : List ℕ) (n : ℕ) (r : Answer) → n ≡ close_refusal s grants → (n ≡ 0 → ⊥) → r ≡ refused n →
-    (r ≡ (close s grants).answer) × (s ≡ (close s grants).state) × (grants ≡ (close s grants).grants)
-answers-refused s grants n r e some told =
+pub is_refused : (s grants : List ℕ) (refusal : Refusal) → number_of refusal ≡ close_refusal s grants →
+    (refused (number_of refusal) ≡ (close s grants).answer) × (s ≡ (close s grants).state) × (grants ≡ (close s grants).grants)
+is_refused s grants refusal e =
+    let n = number_of refusal in
+    let some : n ≡ 0 → ⊥ = λ z. omega (arith, number-pos refusal) in
     let o : close s grants ≡ record { answer = refused n; state = s; grants = grants } = rw e (close-refused s grants (rw e at some)) in
-    (told ∙ sym (ap (λ (x : Closed). x.answer) o), sym (ap (λ (x : Closed). x.state) o), sym (ap (λ (x : Closed). x.grants) o))
+    (sym (ap (λ (x : Closed). x.answer) o), sym (ap (λ (x : Closed). x.state) o), sym (ap (λ (x : Closed). x.grants) o))
 
-pub answers-done : (s grants t after : List ℕ) (n : ℕ) (r : Answer) → n ≡ close_refusal s grants → n ≡ 0 → r ≡ granted (close_kw s) (close_passes s) →
+pub is_done : (s grants t after : List ℕ) (r : Answer) → 0 ≡ close_refusal s grants → r ≡ granted (close_kw s) (close_passes s) →
     t ≡ close_state s → after ≡ close_grants s grants → (r ≡ (close s grants).answer) × (t ≡ (close s grants).state) × (after ≡ (close s grants).grants)
-answers-done s grants t after n r e z told left wrote =
-    let o = close-done s grants (sym e ∙ z) in
+is_done s grants t after r z told left wrote =
+    let o = close-done s grants (sym z) in
     (told ∙ sym (ap (λ (x : Closed). x.answer) o), left ∙ sym (ap (λ (x : Closed). x.state) o), wrote ∙ sym (ap (λ (x : Closed). x.grants) o))

@@ -6,54 +6,42 @@ mod buffer;
 mod sharing;
 mod tables;
 
-ghost use Rattle.std.specs.Prelude.{◌≡◌, not, ◌&&◌, leb, ltb};
-ghost use Rattle.base.specs.Limits.{grants_words};
+ghost use Rattle.std.specs.Prelude.{◌≡◌, not, ◌&&◌, leb};
+ghost use Rattle.base.specs.Refused.{number_in, answer_of};
 ghost use Rattle.base.specs.Stages.{trading_stage, second_requests_stage};
 ghost use Rattle.state.specs.Layout.{stage_of};
 ghost use Rattle.closing.specs.Close.{close_refusal, close};
 
+use base::Granted;
 use base::limits::{GRANTS_WORDS, MOST_PAIRS};
-use base::{Answer, refusals, stages};
+use base::refusals::Refusal;
+use base::stages::Stage;
 
 // Close: shares each intertie's unassigned kW out over what is pending there, in stages 2 and 3, and
 // raises the stage. Word h·I + i of the grants buffer gets the kW of holder h on intertie i.
-pub fn close(state: &mut [u32], grants: &mut [u32]) -> Answer
+pub fn close(state: &mut [u32], grants: &mut [u32]) -> Result<Granted, Refusal>
     ensures { let done = close state.old grants.old in
-        (result ≡ done.answer) × (state.new ≡ done.state) × (grants.new ≡ done.grants) }
+        (answer_of result ≡ done.answer) × (state.new ≡ done.state) × (grants.new ≡ done.grants) }
 {
-    let refusal = close_refusal(state, grants);
-    if refusal != 0 {
-        return Answer::refused(refusal);
-    }
+    check_close(state, grants)?;
     let mut granted = [0u64; MOST_PAIRS];
     let answer = sharing::share_out_pending(state, &mut granted);
     buffer::write_grants(state, &granted, grants);
     applying::apply(state, &granted);
-    answer
+    Ok(Granted {
+        kw: answer.kw,
+        passes: answer.passes,
+    })
 }
 
-// The lowest number that applies to a closing, 0 if none.
-fn close_refusal(state: &[u32], grants: &[u32]) -> u32
-    ensures { result ≡ close_refusal state.now grants.now }
+// The first refusal that applies to a closing.
+#[tactic(auto, using(call::proofs::LadderLaws::passes, call::proofs::LadderLaws::stops), unfolding(crate::specs::Close::close_refusal))]
+fn check_close(state: &[u32], grants: &[u32]) -> Result<(), Refusal>
+    ensures { number_in result ≡ close_refusal state.now grants.now }
 {
-    if short_grants(grants.len()) {
-        return refusals::ROOM;
-    }
-    let unfit = orderly::state_refusal(state);
-    if unfit != 0 {
-        return unfit;
-    }
-    if no_closing(state) {
-        return refusals::STAGE;
-    }
-    0
-}
-
-// Refusal 5: whether a grants buffer of so many words is too short.
-fn short_grants(words: usize) -> bool
-    ensures { result ≡ ltb words grants_words }
-{
-    words < GRANTS_WORDS
+    call::refuse_if(grants.len() < GRANTS_WORDS, Refusal::Room)?;
+    orderly::check_state(state)?;
+    call::refuse_if(no_closing(state), Refusal::Stage)
 }
 
 // Refusal 7: whether the stage has no closing.
@@ -62,5 +50,5 @@ fn no_closing(state: &[u32]) -> bool
         result ≡ not (leb trading_stage stage && leb stage second_requests_stage) }
 {
     let stage = state::stage(state);
-    !((stages::TRADING <= stage) & (stage <= stages::SECOND_REQUESTS))
+    !((Stage::Trading.number() <= stage) & (stage <= Stage::SecondRequests.number()))
 }
