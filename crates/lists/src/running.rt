@@ -3,12 +3,14 @@ ghost use Rattle.std.specs.Prelude.{◌≡◌, true, ◌+◌, ◌*◌, ◌≤◌
 ghost use Rattle.base.specs.Choice.{pick};
 ghost use Rattle.base.specs.Encoding.{call_words, answer_words};
 ghost use Rattle.base.specs.Limits.{grants_words};
+ghost use Rattle.base.specs.Refused.{answer_of};
 ghost use Rattle.balances.specs.Calls.{result as call_result, after};
 ghost use Rattle.lists.specs.Encoded.{call_count, calls_of, accepted, grants_after, answers_after};
 ghost use Rattle.lists.specs.Encoded.{is_closing, numbered, call_of, with_lent, with_answer};
 
 use super::encoded;
-use base::{Answer, encoding};
+use base::refusals::Refusal;
+use base::{Answer, Granted, encoding};
 
 // Runs all calls of a list.
 pub(super) fn run_all(calls: &[u32], state: &mut [u32], grants: &mut [u32], answers: &mut [u64])
@@ -51,19 +53,26 @@ fn run_call(
     if kind == encoding::CLOSE {
         let end = encoded::lent_end(start, grants.len());
         let closed = closing::close(state, &mut grants[start..end]);
-        store_answer(answers, n, closed);
+        store_answer(answers, n, Answer::from(closed));
         return end;
     }
     let kw = encoded::kw_of(words[4], words[5]);
-    let answer = numbered_call(state, kind, words[1], words[2], words[3], kw);
-    store_answer(answers, n, answer);
+    let outcome = numbered_call(state, kind, words[1], words[2], words[3], kw);
+    store_answer(answers, n, Answer::from(outcome));
     start
 }
 
 // Runs a call that is no closing.
-fn numbered_call(state: &mut [u32], kind: u32, a: u32, b: u32, c: u32, kw: u64) -> Answer
+fn numbered_call(
+    state: &mut [u32],
+    kind: u32,
+    a: u32,
+    b: u32,
+    c: u32,
+    kw: u64,
+) -> Result<Granted, Refusal>
     ensures { let gives = call_result (numbered kind a b c kw) state.old in
-        (result ≡ gives.answer) × (state.new ≡ gives.state) }
+        (answer_of result ≡ gives.answer) × (state.new ≡ gives.state) }
 {
     if kind == encoding::TRADE {
         return trading::trade(state, a, b, kw);

@@ -60,7 +60,10 @@ pub extern "C" fn zankurbe_sheet_refusal(sheet: &[u8]) -> u32
 pub extern "C" fn zankurbe_state_refusal(state: &[u32]) -> u32
     ensures { result ≡ state_refusal state.now }
 {
-    orderly::state_refusal(state)
+    match orderly::check_state(state) {
+        Ok(()) => 0,
+        Err(refusal) => refusal.number(),
+    }
 }
 
 // Opens the year from a sheet (Steps 1 to 7); answers T.
@@ -95,7 +98,7 @@ pub extern "C" fn zankurbe_trade(state: &mut [u32], seller: u32, buyer: u32, kw:
     ensures { let traded = trade state.old seller buyer kw in
         (result ≡ traded.answer) × (state.new ≡ traded.state) }
 {
-    trading::trade(state, seller, buyer, kw)
+    Answer::from(trading::trade(state, seller, buyer, kw))
 }
 
 // Requests kW on an intertie (stages 2 and 3).
@@ -104,7 +107,7 @@ pub extern "C" fn zankurbe_request(state: &mut [u32], holder: u32, intertie: u32
     ensures { let requested = request state.old holder intertie kw in
         (result ≡ requested.answer) × (state.new ≡ requested.state) }
 {
-    trading::request(state, holder, intertie, kw)
+    Answer::from(trading::request(state, holder, intertie, kw))
 }
 
 // Moves placed kW above locked from one holder to another on an intertie (stages 3 and 4).
@@ -119,7 +122,7 @@ pub extern "C" fn zankurbe_move(
     ensures { let moved = move state.old giver taker intertie kw in
         (result ≡ moved.answer) × (state.new ≡ moved.state) }
 {
-    holding::move_kw(state, giver, taker, intertie, kw)
+    Answer::from(holding::move_kw(state, giver, taker, intertie, kw))
 }
 
 // Locks placed kW of a pair for a term in years (stage 4).
@@ -134,7 +137,7 @@ pub extern "C" fn zankurbe_lock(
     ensures { let locked = lock state.old holder intertie kw term in
         (result ≡ locked.answer) × (state.new ≡ locked.state) }
 {
-    holding::lock(state, holder, intertie, kw, term)
+    Answer::from(holding::lock(state, holder, intertie, kw, term))
 }
 
 // Takes unassigned kW on an intertie, on a day (stage 4).
@@ -149,7 +152,7 @@ pub extern "C" fn zankurbe_take(
     ensures { let taken = take state.old holder intertie kw day in
         (result ≡ taken.answer) × (state.new ≡ taken.state) }
 {
-    taking::take(state, holder, intertie, kw, day)
+    Answer::from(taking::take(state, holder, intertie, kw, day))
 }
 
 // Closes the stage (1 to 3): grants what is pending, writes the grants and raises the stage.
@@ -158,7 +161,7 @@ pub extern "C" fn zankurbe_close(state: &mut [u32], grants: &mut [u32]) -> Answe
     ensures { let closed = close state.old grants.old in
         (result ≡ closed.answer) × (state.new ≡ closed.state) × (grants.new ≡ closed.grants) }
 {
-    closing::close(state, grants)
+    Answer::from(closing::close(state, grants))
 }
 
 // Runs a list of calls (lists::run_calls). False, and nothing touched, where the words are no such list.
