@@ -35,11 +35,9 @@ fn left_unplaced(state: &[u32], holders: usize, interties: usize, table: &[u64],
         ≡ fill holders (λ (h : ℕ). unplaced_of s h - sum_to interties (λ (i : ℕ). at_pair table h i)) row.old }
 {
     let first = ROW_WORDS * (layout::UNPLACED as usize);
-    let mut holder = 0;
-    while holder < holders {
+    for holder in 0..holders {
         let unplaced = state[first + holder] as u64;
         row[holder] = tables::left_of(unplaced, table, ROW_WORDS * holder, interties);
-        holder += 1;
     }
 }
 

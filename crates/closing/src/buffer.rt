@@ -14,10 +14,8 @@ fn copy_row(table: &[u64], from: usize, count: usize, grants: &mut [u32], to: us
         × ((c : ℕ) → c < count → at table.now (from + c) ≤ most_kw) }
     ensures { grants.new ≡ fill_from to count (λ (c : ℕ). at table.now (from + c)) grants.old }
 {
-    let mut c = 0;
-    while c < count {
+    for c in 0..count {
         grants[to + c] = table[from + c] as u32;
-        c += 1;
     }
 }
 
@@ -30,11 +28,9 @@ fn copy_rows(table: &[u64], holders: usize, interties: usize, grants: &mut [u32]
         ≡ fill (holders * interties) (λ (p : ℕ). at_pair table.now (p / interties) (p % interties)) grants.old }
 {
     let mut next = 0;
-    let mut holder = 0;
-    while holder < holders {
+    for holder in 0..holders {
         copy_row(table, ROW_WORDS * holder, interties, grants, next);
         next += interties;
-        holder += 1;
     }
 }
 

@@ -16,10 +16,8 @@ pub(super) fn read_row(state: &[u32], row: usize, count: usize, table: &mut [u64
     ensures { table.new ≡ fill_from to count (λ (c : ℕ). at state.now (place row c)) table.old }
 {
     let first = ROW_WORDS * row;
-    let mut column = 0;
-    while column < count {
+    for column in 0..count {
         table[to + column] = state[first + column] as u64;
-        column += 1;
     }
 }
 
@@ -36,10 +34,8 @@ pub(super) fn read_pairs(
     ensures { (h i : ℕ) → h < holders → i < interties →
         at_pair table.new h i ≡ at state.now (place (field + h) i) }
 {
-    let mut holder = 0;
-    while holder < holders {
+    for holder in 0..holders {
         read_row(state, field + holder, interties, table, ROW_WORDS * holder);
-        holder += 1;
     }
 }
 
@@ -50,10 +46,8 @@ fn take_off(table: &[u64], from: usize, count: usize, row: &mut [u64])
     ensures { let before = row.old in
         row.new ≡ fill count (λ (c : ℕ). at before c - at table.now (from + c)) before }
 {
-    let mut c = 0;
-    while c < count {
+    for c in 0..count {
         row[c] -= table[from + c];
-        c += 1;
     }
 }
 
@@ -65,10 +59,8 @@ pub(super) fn take_off_holders(table: &[u64], holders: usize, interties: usize, 
     ensures { (i : ℕ) → i < interties →
         at row.new i ≡ at row.old i - sum_to holders (λ (h : ℕ). at_pair table.now h i) }
 {
-    let mut holder = 0;
-    while holder < holders {
+    for holder in 0..holders {
         take_off(table, ROW_WORDS * holder, interties, row);
-        holder += 1;
     }
 }
 
@@ -78,10 +70,8 @@ pub(super) fn left_of(start: u64, table: &[u64], from: usize, count: usize) -> u
     ensures { result ≡ start - sum_to count (λ (c : ℕ). at table.now (from + c)) }
 {
     let mut left = start;
-    let mut c = 0;
-    while c < count {
+    for c in 0..count {
         left -= table[from + c];
-        c += 1;
     }
     left
 }

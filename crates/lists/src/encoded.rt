@@ -28,12 +28,10 @@ fn known_kinds(calls: &[u32], count: usize) -> bool
     requires { call_words * count ≤ length calls.now }
     ensures { result ≡ all_to count (λ (n : ℕ). known_kind (kind_of (words_of calls.now n))) }
 {
-    let mut n = 0;
-    while n < count {
+    for n in 0..count {
         if !known_kind(calls[CALL_WORDS * n]) {
             return false;
         }
-        n += 1;
     }
     true
 }

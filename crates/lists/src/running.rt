@@ -21,13 +21,11 @@ pub(super) fn run_all(calls: &[u32], state: &mut [u32], grants: &mut [u32], answ
         × (answers.new ≡ answers_after words s g answers.old (call_count words)) }
 {
     let count = calls.len() / encoding::CALL_WORDS;
-    let mut n = 0;
     let mut start = 0;
-    while n < count {
+    for n in 0..count {
         let first = encoding::CALL_WORDS * n;
         let end = first + encoding::CALL_WORDS;
         start = run_call(&calls[first..end], n, start, state, grants, answers);
-        n += 1;
     }
 }
 

@@ -83,8 +83,7 @@ fn write_existing(state: &mut [u32], kw: &[u64], interties: usize, holders: usiz
     requires { Sizes state.old interties holders × (length kw.now ≡ slots) }
     ensures { state.new ≡ existing_written kw.now interties holders state.old }
 {
-    let mut holder = 0;
-    while holder < holders {
+    for holder in 0..holders {
         let row = layout::EXISTING as usize + holder;
         write_slots(
             state,
@@ -93,7 +92,6 @@ fn write_existing(state: &mut [u32], kw: &[u64], interties: usize, holders: usiz
             kw,
             tables::EXISTING + tables::HOLDER_INTERTIES * holder,
         );
-        holder += 1;
     }
 }
 

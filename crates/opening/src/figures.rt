@@ -28,10 +28,8 @@ fn fill_held(kw: &[u64], interties: usize, pre_ra: &[u64], new_use: &[u64], held
     ensures { held.new
         ≡ tab (length held.old) (held_from interties kw.now pre_ra.now new_use.now) }
 {
-    let mut holder = 0;
-    while holder < held.len() {
+    for holder in 0..held.len() {
         held[holder] = held_by(kw, interties, holder, pre_ra, new_use);
-        holder += 1;
     }
 }
 
@@ -42,10 +40,8 @@ fn fill_totals(held: &[u64], shares: &[u64], totals: &mut [u64])
     ensures { totals.new
         ≡ tab (length totals.old) (λ (h : ℕ). at held.now h + at shares.now h) }
 {
-    let mut h = 0;
-    while h < totals.len() {
+    for h in 0..totals.len() {
         totals[h] = held[h] + shares[h];
-        h += 1;
     }
 }
 

@@ -48,12 +48,10 @@ fn equal_words(first: &[u32], second: &[u32]) -> bool
     ensures { let n = length first.now in
         result ≡ all_to n (λ (p : ℕ). eqb (at first.now p) (at second.now p)) }
 {
-    let mut p = 0;
-    while p < first.len() {
+    for p in 0..first.len() {
         if first[p] != second[p] {
             return false;
         }
-        p += 1;
     }
     true
 }

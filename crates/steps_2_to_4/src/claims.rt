@@ -16,14 +16,12 @@ pub(super) fn pre_ra_claims(kw: &[u64], holders: usize, claims: &mut [u64])
     ensures { Pairs holders most_interties claims.new
         (λ (h i : ℕ). at kw.now (pre_ra_slot h i) - at kw.now (existing_slot h i)) }
 {
-    let mut holder = 0;
-    while holder < holders {
+    for holder in 0..holders {
         let row = MOST_INTERTIES * holder;
         let end = row + MOST_INTERTIES;
         let pre_ra = PRE_RA + HOLDER_INTERTIES * holder;
         let existing = EXISTING + HOLDER_INTERTIES * holder;
         vectors::differences(&kw[pre_ra..], &kw[existing..], &mut claims[row..end]);
-        holder += 1;
     }
 }
 
@@ -77,8 +75,7 @@ pub(super) fn new_use_claims(
         (λ (h i : ℕ). at (kept_from kw.now ties.now interties
         (at quantities.now h) granted.now h).kept i) }
 {
-    let mut holder = 0;
-    while holder < quantities.len() {
+    for holder in 0..quantities.len() {
         let row = MOST_INTERTIES * holder;
         let end = row + MOST_INTERTIES;
         let quantity = quantities[holder];
@@ -91,6 +88,5 @@ pub(super) fn new_use_claims(
             granted,
             &mut claims[row..end],
         );
-        holder += 1;
     }
 }

@@ -23,10 +23,8 @@ fn all_within(kw: &[u64; SLOTS], from: usize, count: usize, most: u64) -> bool
     ensures { result ≡ all_to count (λ (c : ℕ). leb (at kw.now (from + c)) most) }
 {
     let mut hold = true;
-    let mut c = 0;
-    while c < count {
+    for c in 0..count {
         hold = hold & (kw[from + c] <= most);
-        c += 1;
     }
     hold
 }

@@ -26,10 +26,8 @@ fn fill_quantities(total: u64, all: u64, loads: &[u64], quantities: &mut [u64])
     ensures { quantities.new
         ≡ tab (length quantities.old) (λ (h : ℕ). total * at loads.now h / all) }
 {
-    let mut h = 0;
-    while h < quantities.len() {
+    for h in 0..quantities.len() {
         quantities[h] = quantity(total, loads[h], all);
-        h += 1;
     }
 }
 

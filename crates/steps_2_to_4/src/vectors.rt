@@ -16,10 +16,8 @@ pub(super) fn differences(list: &[u64], other: &[u64], row: &mut [u64])
     ensures { row.new
         ≡ tab (length row.old) (λ (c : ℕ). at list.now c - at other.now c) }
 {
-    let mut c = 0;
-    while c < row.len() {
+    for c in 0..row.len() {
         row[c] = excess(list[c], other[c]);
-        c += 1;
     }
 }
 
@@ -29,12 +27,10 @@ pub(super) fn take_off_holders(table: &[u64], holders: usize, row: &mut [u64])
     ensures { row.new ≡ tab (length row.old)
         (λ (i : ℕ). at row.old i - sum_to holders (λ (h : ℕ). at table.now (pair_at h i))) }
 {
-    let mut holder = 0;
-    while holder < holders {
+    for holder in 0..holders {
         let from = MOST_INTERTIES * holder;
         let end = from + row.len();
         base::vectors::take_off(&table[from..end], row);
-        holder += 1;
     }
 }
 
@@ -45,11 +41,9 @@ pub(super) fn take_off_existing(kw: &[u64], holders: usize, row: &mut [u64])
     ensures { row.new ≡ tab (length row.old)
         (λ (i : ℕ). at row.old i - sum_to holders (λ (h : ℕ). at kw.now (existing_slot h i))) }
 {
-    let mut holder = 0;
-    while holder < holders {
+    for holder in 0..holders {
         let from = EXISTING + HOLDER_INTERTIES * holder;
         let end = from + row.len();
         base::vectors::take_off(&kw[from..end], row);
-        holder += 1;
     }
 }

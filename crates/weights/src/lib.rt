@@ -36,10 +36,8 @@ fn write_weights(state: &[u32], weights: &mut [u64; MOST_HOLDERS])
     ensures { let s = state.now in weights.new ≡ fill (holders s) (weight_of s) weights.old }
 {
     let holders = state::holder_count(state);
-    let mut holder = 0;
-    while holder < holders {
+    for holder in 0..holders {
         weights[holder as usize] = weight(state, holder);
-        holder += 1;
     }
 }
 
@@ -92,10 +90,8 @@ fn sellers_load(state: &[u32], sellers: u32, holders: u32) -> u64
 {
     let first = ROW_WORDS * (layout::LOAD_SHARE as usize);
     let mut load: u64 = 0;
-    let mut holder = 0;
-    while holder < holders {
+    for holder in 0..holders {
         load += load_if_seller(sellers, holder, state[first + (holder as usize)]);
-        holder += 1;
     }
     load
 }

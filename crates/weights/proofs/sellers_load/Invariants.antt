@@ -1,5 +1,5 @@
 -- `sellers_load` meets its contract: after j turns the first j holders are looked at.
-use Rattle.base.proofs.Prelude.{ℕ, ◌-◌, ◌*◌, ◌≤◌, ◌≡◌, List, sum_to}
+use Rattle.base.proofs.Prelude.{ℕ, ◌*◌, ◌≤◌, ◌≡◌, List, sum_to}
 use Rattle.state.specs.Layout.{load_share_of}
 use Rattle.weights.specs.Weight.{seller_bit}
 use Rattle.weights.proofs.sellers_load.Given as goal
@@ -11,6 +11,3 @@ counted state sellers j = seller_bit sellers j * load_share_of state j
 abbrev pub invariant-loop-holder : goal.invariant-loop-holder
 invariant-loop-holder l =
     (l.holder ≤ l.holders) × (l.load ≤ l.holder * 4294967296) × (l.load ≡ sum_to l.holder (counted l.state l.sellers))
-
-abbrev pub decreases-loop-holder : goal.decreases-loop-holder
-decreases-loop-holder l = l.holders - l.holder

@@ -11,6 +11,3 @@ left state table interties h = unplaced_of state h - sum_to interties (λ i. at_
 abbrev pub invariant-loop-holder : goal.invariant-loop-holder
 invariant-loop-holder l =
     (l.holder ≤ l.holders) × (length l.row ≡ length l.initial.row) × (l.row ≡ fill l.holder (left l.state l.table l.interties) l.initial.row)
-
-abbrev pub decreases-loop-holder : goal.decreases-loop-holder
-decreases-loop-holder l = l.holders - l.holder

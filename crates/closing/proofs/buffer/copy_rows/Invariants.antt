@@ -1,5 +1,5 @@
 -- `copy_rows` meets its contract: after m turns the rows of the first m holders are copied.
-use Rattle.base.proofs.Prelude.{ℕ, ◌-◌, ◌*◌, ◌/◌, ◌%◌, ◌≤◌, ◌≡◌, List, length, fill}
+use Rattle.base.proofs.Prelude.{ℕ, ◌*◌, ◌/◌, ◌%◌, ◌≤◌, ◌≡◌, List, length, fill}
 use Rattle.intertie_shares.specs.Pairs.{at_pair}
 use Rattle.closing.proofs.buffer.copy_rows.Given as goal
 
@@ -10,6 +10,3 @@ word table interties p = at_pair table (p / interties) (p % interties)
 abbrev pub invariant-loop-holder : goal.invariant-loop-holder
 invariant-loop-holder l =
     (l.holder ≤ l.holders) × (l.next ≤ 48 * l.holder) × (l.next ≡ l.holder * l.interties) × (length l.grants ≡ length l.initial.grants) × (l.grants ≡ fill l.next (word l.table l.interties) l.initial.grants)
-
-abbrev pub decreases-loop-holder : goal.decreases-loop-holder
-decreases-loop-holder l = l.holders - l.holder

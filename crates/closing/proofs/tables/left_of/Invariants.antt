@@ -7,6 +7,3 @@ word table from c = at table (from + c)
 
 abbrev pub invariant-loop-c : goal.invariant-loop-c
 invariant-loop-c l = (l.c ≤ l.count) × (l.left ≡ l.start - sum_to l.c (word l.table l.from))
-
-abbrev pub decreases-loop-c : goal.decreases-loop-c
-decreases-loop-c l = l.count - l.c

@@ -1,5 +1,5 @@
 -- `read_pairs` meets its contract: after m turns the rows of the first m holders are read.
-use Rattle.base.proofs.Prelude.{ℕ, ◌+◌, ◌-◌, ◌≤◌, List, at}
+use Rattle.base.proofs.Prelude.{ℕ, ◌+◌, ◌≤◌, List, at}
 use Rattle.state.specs.Layout.{place}
 use Rattle.closing.proofs.TableLaws.{Rows}
 use Rattle.closing.proofs.tables.read_pairs.Given as goal
@@ -10,6 +10,3 @@ word state field h i = at state (place (field + h) i)
 
 abbrev pub invariant-loop-holder : goal.invariant-loop-holder
 invariant-loop-holder l = (l.holder ≤ l.holders) × Rows l.interties (word l.state l.field) l.initial.table l.table l.holder
-
-abbrev pub decreases-loop-holder : goal.decreases-loop-holder
-decreases-loop-holder l = l.holders - l.holder

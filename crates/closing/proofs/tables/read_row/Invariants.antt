@@ -1,5 +1,5 @@
 -- `read_row` meets its contract: after c turns the first c words are read.
-use Rattle.base.proofs.Prelude.{ℕ, ◌-◌, ◌≤◌, ◌≡◌, List, length, at}
+use Rattle.base.proofs.Prelude.{ℕ, ◌≤◌, ◌≡◌, List, length, at}
 use Rattle.state.specs.Layout.{place}
 use Rattle.closing.specs.Workers.Work.{fill_from}
 use Rattle.closing.proofs.tables.read_row.Given as goal
@@ -11,6 +11,3 @@ word state row c = at state (place row c)
 abbrev pub invariant-loop-column : goal.invariant-loop-column
 invariant-loop-column l =
     (l.column ≤ l.count) × (length l.table ≡ length l.initial.table) × (l.table ≡ fill_from l.to l.column (word l.state l.row) l.initial.table)
-
-abbrev pub decreases-loop-column : goal.decreases-loop-column
-decreases-loop-column l = l.count - l.column

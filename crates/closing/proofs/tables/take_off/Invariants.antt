@@ -9,6 +9,3 @@ word table from row c = at row c - at table (from + c)
 abbrev pub invariant-loop-c : goal.invariant-loop-c
 invariant-loop-c l =
     (l.c ≤ l.count) × (length l.row ≡ length l.initial.row) × (l.row ≡ fill l.c (word l.table l.from l.initial.row) l.initial.row)
-
-abbrev pub decreases-loop-c : goal.decreases-loop-c
-decreases-loop-c l = l.count - l.c

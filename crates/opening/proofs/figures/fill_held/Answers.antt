@@ -16,7 +16,7 @@ loop-holder-preserved c = let a = c.args in
     filling-next (held_from a.interties a.kw.now a.pre_ra.now a.new_use.now) _ _ _ _ c.loop-holder.invariant (omega arith) c.held_by.ensures
 
 pub returns : goal.returns
-returns c = filling-all _ _ _ _ c.loop-holder.invariant c.loop-holder-test.false
+returns c = filling-all _ _ _ _ c.loop-holder.invariant (omega (arith, c.loop-holder.invariant.size))
 
 pub shape_of-held : goal.shape_of-held
 shape_of-held c = c.loop-holder.invariant.size

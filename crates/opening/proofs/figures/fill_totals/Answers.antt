@@ -15,7 +15,7 @@ loop-h-preserved c = let a = c.args in
     filling-next (both a.held.now a.shares.now) _ _ _ _ c.loop-h.invariant (omega arith) refl
 
 pub returns : goal.returns
-returns c = filling-all _ _ _ _ c.loop-h.invariant c.loop-h-test.false
+returns c = filling-all _ _ _ _ c.loop-h.invariant (omega (arith, c.loop-h.invariant.size))
 
 pub shape_of-totals : goal.shape_of-totals
 shape_of-totals c = c.loop-h.invariant.size

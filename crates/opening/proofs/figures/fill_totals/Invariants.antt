@@ -1,5 +1,5 @@
 -- `fill_totals` meets its contract: after h turns the first h holders have theirs.
-use Rattle.base.proofs.Prelude.{ℕ, ◌+◌, ◌-◌, List, length, at}
+use Rattle.base.proofs.Prelude.{ℕ, ◌+◌, List, at}
 use Rattle.base.proofs.VectorLaws.{Filling}
 use Rattle.opening.proofs.figures.fill_totals.Given as goal
 
@@ -8,6 +8,3 @@ both held shares h = at held h + at shares h
 
 abbrev pub invariant-loop-h : goal.invariant-loop-h
 invariant-loop-h l = Filling (both l.held l.shares) l.initial.totals l.totals l.h
-
-abbrev pub decreases-loop-h : goal.decreases-loop-h
-decreases-loop-h l = length l.initial.totals - l.h

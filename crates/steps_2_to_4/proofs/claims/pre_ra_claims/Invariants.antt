@@ -9,6 +9,3 @@ claim kw h i = at kw (pre_ra_slot h i) - at kw (existing_slot h i)
 
 abbrev pub invariant-loop-holder : goal.invariant-loop-holder
 invariant-loop-holder l = Rows (claim l.kw) l.holders l.initial.claims l.claims l.holder
-
-abbrev pub decreases-loop-holder : goal.decreases-loop-holder
-decreases-loop-holder l = l.holders - l.holder

@@ -15,7 +15,7 @@ loop-h-preserved c = let a = c.args in
     filling-next (of a.total a.all a.loads.now) _ _ _ _ c.loop-h.invariant (omega arith) c.quantity.ensures
 
 pub returns : goal.returns
-returns c = filling-all _ _ _ _ c.loop-h.invariant c.loop-h-test.false
+returns c = filling-all _ _ _ _ c.loop-h.invariant (omega (arith, c.loop-h.invariant.size))
 
 pub shape_of-quantities : goal.shape_of-quantities
 shape_of-quantities c = c.loop-h.invariant.size

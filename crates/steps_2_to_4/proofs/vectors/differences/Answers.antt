@@ -11,7 +11,7 @@ loop-c-preserved c = let a = c.args in
     filling-next (word a.list.now a.other.now) _ _ _ _ c.loop-c.invariant (omega arith) c.excess.ensures
 
 pub returns : goal.returns
-returns c = filling-all _ _ _ _ c.loop-c.invariant c.loop-c-test.false
+returns c = filling-all _ _ _ _ c.loop-c.invariant (omega (arith, c.loop-c.invariant.size))
 
 pub shape_of-row : goal.shape_of-row
 shape_of-row c = c.loop-c.invariant.size

@@ -1,5 +1,5 @@
 -- `take_off_holders` meets its contract: after m turns the rows of the first m holders are taken off.
-use Prim.Native.Nat.{ℕ, ◌-◌, ◌≤◌}
+use Prim.Native.Nat.{ℕ, ◌≤◌}
 use mathlib.Core.Path.{◌≡◌}
 use mathlib.Core.List.{List}
 use lib.ListN.{length}
@@ -14,6 +14,3 @@ have table h i = at table (pair_at h i)
 abbrev pub invariant-loop-holder : goal.invariant-loop-holder
 invariant-loop-holder l =
     (l.holder ≤ l.holders) × (length l.row ≡ length l.initial.row) × (l.row ≡ lowered (have l.table) l.initial.row l.holder)
-
-abbrev pub decreases-loop-holder : goal.decreases-loop-holder
-decreases-loop-holder l = l.holders - l.holder
