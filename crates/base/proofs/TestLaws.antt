@@ -51,6 +51,13 @@ faults-end n m p {k} e l g =
     let same : m ≡ n = omega arith in
     ap (λ (x : ℕ). eqb x 0) (rw same at e) ∙ faults-none n p
 
+-- bits put together are no less than either number
+pub or-left-most : (a b : ℕ) → a ≤ bit_or a b
+or-left-most a b = omega (arith, or_add_and a b, and_le_r a b)
+
+pub or-right-most : (a b : ℕ) → b ≤ bit_or a b
+or-right-most a b = omega (arith, or_add_and a b, and_le_l a b)
+
 -- the bits of two words together are 0 where both words are
 pub or-none : (a b : ℕ) → eqb (bit_or a b) 0 ≡ (eqb a 0 && leb b 0)
 or-none a b =

@@ -4,7 +4,7 @@ use mathlib.Core.Path.{◌≡◌, refl, sym, ap, ◌∙◌}
 use mathlib.Core.Bool.{true, ◌&&◌}
 use mathlib.Core.List.{List}
 use mathlib.Core.Logic.{⊎_elim}
-use native.Mathlib.Nat.{le_refl, min_comm, eq-zero-or-pos, div-zero, pos_of_ne-zero, sub-zero}
+use native.Mathlib.Nat.{le_refl, le_trans, min_comm, eq-zero-or-pos, div-zero, pos_of_ne-zero, sub-zero}
 use native.Mathlib.Omega.{arith}
 use lib.ListN.{length, set, length-set}
 use lib.Seq.{ext_get_or}
@@ -18,8 +18,8 @@ use Rattle.base.proofs.WordLaws.{fill-zero, fill-turn, fill-whole, at_fill, at-f
 use Rattle.share_out.specs.Turn.{in_turn}
 use Rattle.share_out.specs.Pass.{unmet, is_open, open_weight, open_weights, by_weight, one_each, unweighted, pass_kw, pass_total, pass_grants}
 use Rattle.share_out.specs.Rule.{run_passes, claimed, shared}
-use Rattle.share_out.specs.Workers.Fit.{AtMost, Weighed, Rated, Serving, Raised, Completed, none, wants}
-use Rattle.share_out.proofs.PassLaws.{open-weight-part, open-weight-after, open_is, brings-unmet, open_weight-most, by_weight-is, pass_total-within, pass_total-pos, pass_total-last}
+use Rattle.share_out.specs.Workers.Fit.{AtMost, Weighed, Rated, Serving, Raised, Completed, Ready, none, wants}
+use Rattle.share_out.proofs.PassLaws.{open-weight-part, open-weight-after, open_is, brings-unmet, open_weight-most, by_weight-is, by_weight-within, pass_total-within, pass_total-pos, pass_total-last}
 use Rattle.share_out.proofs.RunLaws.{Running, at_none, running-first, running-next, run-empty, run-pass}
 use Rattle.share_out.proofs.Promise.{shared-passes}
 
@@ -305,3 +305,114 @@ module _ (pool : ℕ) (claims weights : List ℕ) where
       shared pool claims weights ≡ record { grants = g; passes = made }
   passing-last g left made p z =
       p.same ∙ ap (λ k. run_passes claims weights (pool - made) made k g) z ∙ run-empty claims weights (pool - made) made g
+
+-- `by_passes` between two passes: `left` of the pool is left, and while the pool lasts `brought` has the weights that `all` sums
+pub record Between (pool : ℕ) (claims weights g brought : List ℕ) (left all made : ℕ) : Type 0 where
+  pub passing : Passing pool claims weights g left made
+  pub weighed : 0 < left → Weighed all claims weights g brought
+
+-- and within a pass: i holders have their parts by weight on top of g, and the weights that they then bring are noted
+pub record Turns (R : ℕ) (claims weights g brought grants noted : List ℕ) (given still i : ℕ) : Type 0 where
+  pub parts : Given (by_weight claims weights R g) g (length claims) grants given i
+  pub notes : Noted (open_weight claims weights (weighted claims weights R g)) brought (length claims) noted still i
+
+-- and after the last holder's turn
+pub record Turned (R : ℕ) (claims weights g grants noted : List ℕ) (given still : ℕ) : Type 0 where
+  pub raised : Raised given grants (length claims) g (by_weight claims weights R g)
+  pub weighed : Weighed still claims weights grants noted
+
+pub between-first : {pool all : ℕ} {claims weights grants brought : List ℕ} → Ready pool claims weights grants →
+    Weighed all claims weights (none claims) brought → Between pool claims weights grants brought pool all 0
+between-first {pool} {all} {claims} {weights} {grants} {brought} r w =
+    rw r.fresh (record { passing = passing-first pool claims weights r.short; weighed = λ some. w })
+
+pub turns-none : {R : ℕ} {claims weights g brought : List ℕ} → Turns R claims weights g brought g brought 0 0 0
+turns-none {R} {claims} {weights} {g} {brought} = record { parts = given-none _ g (length claims); notes = noted-none _ brought (length claims) }
+
+module _ {pool R all made given still i : ℕ} {claims weights g brought grants noted : List ℕ} (b : Between pool claims weights g brought R all made) (some : 0 < R)
+    (t : Turns R claims weights g brought grants noted given still i) where
+  later-grant : at grants i ≡ at g i
+  later-grant = given-later _ g (length claims) grants given i t.parts
+
+  later-weight : at noted i ≡ at brought i
+  later-weight = noted-later _ brought (length claims) noted still i t.notes
+
+  -- a holder whose turn is to come has no more than its claim
+  pub turns-unmet : i < length claims → at grants i ≤ at claims i
+  turns-unmet l = omega (arith, later-grant, b.passing.running.within i l)
+
+  pub turns-rated : {rate : ℕ} {fresh : List ℕ} → Ready pool claims weights fresh → i < length claims → rate ≡ R * 274877906944 / all → Rated R (at noted i) all rate
+  turns-rated {rate} r l e =
+      rated-open claims weights R g brought i all rate (at noted i) (omega (arith, r.pooled, b.passing.running.counted)) r.weighted l
+      (b.weighed some) e later-weight
+
+  -- its part by weight as the code finds it
+  pub turns-kw : {part kw : ℕ} → i < length claims → part ≡ R * at noted i / all → kw ≡ min part (at claims i - at grants i) →
+      kw ≡ by_weight claims weights R g i
+  turns-kw {part} {kw} l d h =
+      part-is claims weights R g grants brought i all _ (at noted i) part kw l (b.weighed some) later-grant refl later-weight d h
+
+  -- and the weight that it then brings
+  pub turns-weight : {part kw x : ℕ} → i < length claims → part ≡ R * at noted i / all → kw ≡ min part (at claims i - at grants i) →
+      x ≡ pick (ltb part (at claims i - at grants i)) (at noted i) 0 → x ≡ open_weight claims weights (weighted claims weights R g) i
+  turns-weight {part} {kw} {x} l d h y =
+      after_is claims weights R g grants brought i all _ (at noted i) part kw x l (b.weighed some) later-grant refl later-weight d h y
+
+  -- what is given so far is within what is left
+  pub turns-given : {part kw : ℕ} → i < length claims → part ≡ R * at noted i / all → kw ≡ min part (at claims i - at grants i) → given + kw ≤ R
+  turns-given {part} {kw} l d h =
+      le_trans (given-most _ g (length claims) grants given i kw t.parts l (turns-kw l d h)) (by_weight-within claims weights R g)
+
+  -- and the weights noted are few
+  pub turns-still : {part kw x : ℕ} {fresh : List ℕ} → Ready pool claims weights fresh → i < length claims → part ≡ R * at noted i / all →
+      kw ≡ min part (at claims i - at grants i) → x ≡ pick (ltb part (at claims i - at grants i)) (at noted i) 0 → still + x ≤ length claims * 100000000
+  turns-still {part} {kw} {x} r l d h y =
+      noted-most _ brought (length claims) 100000000 noted still i x
+      (λ j m. open_weight-most claims weights 100000000 (weighted claims weights R g) j (r.weighted j m)) t.notes l (turns-weight l d h y)
+
+  pub turns-next : {part kw x : ℕ} → i < length claims → part ≡ R * at noted i / all → kw ≡ min part (at claims i - at grants i) →
+      x ≡ pick (ltb part (at claims i - at grants i)) (at noted i) 0 →
+      Turns R claims weights g brought (set grants i (at grants i + kw)) (set noted i x) (given + kw) (still + x) (i + 1)
+  turns-next {part} {kw} {x} l d h y =
+      record {
+        parts = given-next _ g (length claims) grants given i kw t.parts l (turns-kw l d h);
+        notes = noted-next _ brought (length claims) noted still i x t.notes l (turns-weight l d h y);
+      }
+
+  pub turned : {fresh : List ℕ} → Ready pool claims weights fresh → length claims ≤ i → Turned R claims weights g grants noted given still
+  turned r end =
+      let raised : Raised given grants (length claims) g (by_weight claims weights R g) =
+      given-all _ g (length claims) grants given i b.passing.running.size t.parts end in
+      record {
+        raised = raised;
+        weighed = rw raised.grants
+            (noted-weights claims weights (weighted claims weights R g) brought noted still i r.sized.few (b.weighed some).room t.notes end);
+      }
+
+  pub turned-serving : {fresh : List ℕ} → Ready pool claims weights fresh → length claims ≤ i → Serving claims noted grants
+  turned-serving r end =
+      serving claims weights grants noted still r.sized.few (t.parts.size ∙ b.passing.running.size) (turned r end).weighed
+
+  -- the pass that is then completed is the definition's
+  module _ {fresh after : List ℕ} {r : ℕ} where
+    pub turned-passed : Ready pool claims weights fresh → length claims ≤ i → Completed given R all r claims noted grants after →
+        Passed claims weights R g r after
+    turned-passed q end done =
+        completed-pass claims weights R g grants after noted given all still r b.passing.running.size (b.weighed some).total
+        (turned q end).raised (turned q end).weighed done
+
+    pub turned-within : Ready pool claims weights fresh → length claims ≤ i → Completed given R all r claims noted grants after → r ≤ R
+    turned-within q end done = passed-within pool claims weights g after R r (turned-passed q end done)
+
+    pub turned-some : Ready pool claims weights fresh → length claims ≤ i → Completed given R all r claims noted grants after → 0 < r
+    turned-some q end done = passed-some pool claims weights g after R made r b.passing some (turned-passed q end done)
+
+    pub between-next : Ready pool claims weights fresh → length claims ≤ i → Completed given R all r claims noted grants after →
+        Between pool claims weights after noted (R - r) still (made + 1)
+    between-next q end done =
+        record {
+          passing = passing-next pool claims weights g after R made r b.passing some (turned-passed q end done);
+          weighed = λ rest.
+              weighed-next claims weights R g grants after noted given all still r b.passing.running.short (turned q end).raised
+              (turned q end).weighed done (turned-passed q end done) rest;
+        }

@@ -3,28 +3,25 @@ use Prim.Native.Nat.{ℕ, ◌+◌, ◌%◌, ◌≤◌, ◌<◌}
 use mathlib.Core.Path.{◌≡◌}
 use mathlib.Core.Bool.{true, false, not, ◌&&◌}
 use mathlib.Core.List.{List}
-use mathlib.Core.Logic.{⊎_elim}
-use native.Mathlib.Nat.{le_trans, not-suc-le-zero, mod-eq_of_lt}
-use native.Mathlib.Numerals.{add-one}
+use native.Mathlib.Nat.{mod-eq_of_lt}
 use native.Mathlib.Omega.{arith}
-use lib.Bits.{bit_or, or_add_and, and_le_l, and_le_r}
+use lib.Bits.{bit_or}
 use lib.ListN.{length}
 use lib.Dec.{ltb, leb}
 use borrow.Author.Tests.{lt-ltb, le-ltb, ltb-false, ltb-true, leb-true, le-leb, not-false}
+use Rattle.std.specs.List.{fold}
 use Rattle.base.specs.Sums.{all_to}
 use Rattle.base.specs.Words.{at}
 use Rattle.base.proofs.ChoiceLaws.{and_left, and_right, and_both, or_left, or_right}
-use Rattle.base.proofs.SumLaws.{below_suc, all_to-fails, all_to-each, all_to-all}
+use Rattle.base.proofs.ListLaws.{fold-or-most}
+use Rattle.base.proofs.SumLaws.{all_to-each, all_to-all}
+use Rattle.base.proofs.TestLaws.{or-left-most, or-right-most}
 use Rattle.share_out.specs.Rule.{in_range, unfit_numbers}
 use Rattle.share_out.specs.Workers.Fit.{AtMost, Covered, raised}
 
 pub pool-over : (pool : ℕ) (claims weights : List ℕ) → 20000000 < pool → unfit_numbers pool claims weights ≡ true
 unfolding unfit_numbers
 pool-over pool claims weights h = rw (lt-ltb 20000000 pool h)
-
-pub holder-over : (claims weights : List ℕ) (i : ℕ) → i < length claims → in_range claims weights i ≡ false →
-    not (all_to (length claims) (in_range claims weights)) ≡ true
-holder-over claims weights i l h = rw (all_to-fails (length claims) (in_range claims weights) i l h)
 
 pub all_fit : (pool : ℕ) (claims weights : List ℕ) → pool ≤ 20000000 → all_to (length claims) (in_range claims weights) ≡ true →
     unfit_numbers pool claims weights ≡ false
@@ -49,24 +46,9 @@ module _ (pool : ℕ) (claims weights : List ℕ) (e : unfit_numbers pool claims
   pub fit-weights : AtMost (length claims) weights 100000000
   fit-weights i l = leb-true (at weights i) 100000000 (and_right (leb (at claims i) 20480000000) (leb (at weights i) 100000000) (ranged i l))
 
--- bits put together are no less than either number
-or-left-most : (a b : ℕ) → a ≤ bit_or a b
-or-left-most a b = omega (arith, or_add_and a b, and_le_r a b)
-
-or-right-most : (a b : ℕ) → b ≤ bit_or a b
-or-right-most a b = omega (arith, or_add_and a b, and_le_l a b)
-
--- numbers whose bits are put together one by one
-module _ (f : ℕ → ℕ) where
-  pub covered_none : Covered 0 f 0
-  covered_none i l = absurd (not-suc-le-zero l)
-
-  pub covered_more : (n bits x : ℕ) → Covered n f bits → x ≡ f n → Covered (n + 1) f (bit_or bits x)
-  covered_more n bits x c e i l =
-      ⊎_elim
-      (λ (last : i ≡ n). rw (last, ← e) (or-right-most bits x))
-      (λ (before : i < n). le_trans (c i before) (or-left-most bits x))
-      (below_suc (rw (add-one n) at l))
+-- bits put together over a list cover what they are put together of
+pub covers : (f : ℕ → ℕ) (l : List ℕ) (bits : ℕ) → bits ≡ fold (λ most number. bit_or most (f number)) 0 l → Covered (length l) (λ i. f (at l i)) bits
+covers f l bits e i h = rw e (fold-or-most f 0 l i h)
 
 -- a weight whose raised bits are below 2 ^ 27 is in range
 raised-most : (weight : ℕ) → raised weight < 134217728 → weight ≤ 100000000

@@ -1,5 +1,5 @@
 -- The answer and the output by cases: refused with 5, refused with 9, shared out.
-use Prim.Native.Nat.{ℕ, ◌≤◌, ◌<◌}
+use Prim.Native.Nat.{ℕ, ◌%◌, ◌^◌, ◌≤◌, ◌<◌}
 use mathlib.Core.Path.{◌≡◌, sym, ap}
 use mathlib.Core.Bool.{true, false, not, ◌||◌}
 use mathlib.Core.List.{List, ◌++◌}
@@ -10,8 +10,12 @@ use borrow.Author.Tests.{ltb-false, eqb-true, not-false}
 use Rattle.base.specs.Words.{at, fill}
 use Rattle.base.specs.Answers.{refused, granted}
 use Rattle.base.proofs.ChoiceLaws.{or_left, or_right}
+use Rattle.base.proofs.SumLaws.{sum_to-bound}
+use Rattle.base.proofs.VectorLaws.{sum-whole}
 use Rattle.base.proofs.WordLaws.{fill-front}
 use Rattle.share_out.specs.Rule.{claimed, shared, unfit_lengths, unfit_numbers, shared_answer, share_out}
+use Rattle.share_out.specs.Workers.Fit.{Accepted}
+use Rattle.share_out.proofs.NumberLaws.{fit-claims}
 use Rattle.share_out.proofs.Promise.{promise, shared-fits}
 
 -- what refusal 5 leaves of the lengths
@@ -28,6 +32,12 @@ fit-lengths n weights output e =
       few = ltb-false 32 n (or_left (ltb 32 n) (ltb output n) rest);
       room = ltb-false output n (or_right (ltb 32 n) (ltb output n) rest);
     }
+
+-- claims in range have a sum that 64 bits hold
+pub claimed-whole : {pool r : ℕ} {claims weights grants : List ℕ} → Accepted pool claims weights grants → r ≡ claimed claims % 2 ^ 64 → r ≡ claimed claims
+claimed-whole {pool} {r} {claims} {weights} a e =
+    sum-whole r _ (at claims) e
+    (omega (arith, a.sized.few, sum_to-bound _ 20480000000 (at claims) (fit-claims pool claims weights a.ranged)))
 
 -- the answer where the claims fit, and where they don't
 pub answer-whole : (pool : ℕ) (claims weights : List ℕ) (total : ℕ) → total ≡ claimed claims → total ≤ pool → granted total 0 ≡ shared_answer pool claims weights

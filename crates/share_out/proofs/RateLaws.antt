@@ -1,17 +1,10 @@
 -- A quotient by the rate: where the parts it leaves open hold no whole kW, nothing need be divided.
 use Prim.Native.Nat.{ℕ, ◌+◌, ◌*◌, ◌/◌, ◌≤◌, ◌<◌}
 use mathlib.Core.Path.{◌≡◌, sym, ap, ◌∙◌}
-use mathlib.Core.Logic.{◌≢◌, ⊎_elim}
+use mathlib.Core.Logic.{⊎_elim}
 use native.Mathlib.Nat.{eq-zero-or-pos, mul-zero, zero-mul, zero-div, mul_comm, mul_assoc, mul-le-mul_left, mul-le-mul_right, mul-lt-mul_of_pos_left, mul-lt-mul_of_pos_right, le_of_mul-le-mul_right, lt_of_mul-lt-mul_right, div-mul-le_self, lt-div-mul-add, div-eq_of_lt-le, mul-add, add-mul, mul_right_comm}
 use native.Mathlib.Omega.{arith}
 use Rattle.share_out.specs.Workers.Fit.{Rated}
-
--- the rate is at most left parts for each weight
-pub rate-most : (left weight all rate : ℕ) → Rated left weight all rate → weight * rate ≤ left * 274877906944
-rate-most left weight all rate r =
-    let whole : rate * all ≤ left * 274877906944 = rw r.rated (div-mul-le_self (left * 274877906944) all) in
-    let some : weight * rate ≤ all * rate = mul-le-mul_right rate r.among in
-    omega (arith, mul_comm all rate)
 
 module _ (parts left weight all rate kw : ℕ) (some : 0 < parts) (pos : 0 < all) (rated : rate ≡ left * parts / all) where
   -- kW that the rate's parts fill are within the exact quotient
@@ -58,12 +51,4 @@ portion-by-rate left weight all rate r same =
     (div-eq_of_lt-le all
     (low 274877906944 left weight all rate kw (omega arith) pos r.rated below)
     (high 274877906944 left weight all rate kw (omega arith) pos r.rated w above)))
-    (eq-zero-or-pos weight)
-
--- where they don't, the weight is above 0
-pub portion-some : (weight all rate : ℕ) → weight ≤ all → (weight * rate + weight) / 274877906944 ≢ weight * rate / 274877906944 → 0 < all
-portion-some weight all rate among differ =
-    ⊎_elim
-    (λ (z : weight ≡ 0). absurd (differ (rw (z, zero-mul))))
-    (λ (w : 0 < weight). omega arith)
     (eq-zero-or-pos weight)

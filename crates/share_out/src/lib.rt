@@ -2,8 +2,10 @@
 #![tactic(auto)]
 
 ghost use Rattle.std.specs.Prelude.{◌≡◌, not, ◌&&◌, ℕ, ◌*◌, ◌/◌, ◌≤◌, length, leb, ltb};
+ghost use Rattle.base.specs.Answers.{granted};
 ghost use Rattle.base.specs.Choice.{pick};
 ghost use Rattle.base.specs.Limits.{most_kw, most_claim_kw, most_load_share};
+ghost use Rattle.base.specs.Refused.{answer_of};
 ghost use Rattle.base.specs.Sums.{all_to};
 ghost use Rattle.base.specs.Words.{at};
 ghost use Rattle.share_out.specs.Rule.{shared, unfit_lengths, in_range, unfit_numbers, shared_answer, share_out};
@@ -12,8 +14,8 @@ ghost use Rattle.share_out.specs.Workers.Fit.{Covered, above_weights, raised, kw
 ghost use Rattle.share_out.specs.Workers.Fit.{Serving, Raised, Completed, Ready, Accepted};
 
 use base::limits::{MOST_CLAIM_KW, MOST_HOLDERS, MOST_KW, MOST_LOAD_SHARE};
-use base::numbers::{excess, smaller};
-use base::{Answer, refusals, vectors};
+use base::refusals::Refusal;
+use base::{Granted, vectors};
 
 // The parts of a kW that a rate counts: 2 to the power 38.
 const PARTS: u64 = 274_877_906_944;
@@ -45,13 +47,7 @@ fn in_range(claim: u64, weight: u64) -> bool
 fn claim_bits(claims: &[u64]) -> u64
     ensures { Covered (length claims.now) (at claims.now) result }
 {
-    let mut bits = 0;
-    let mut i = 0;
-    while i < claims.len() {
-        bits = bits | claims[i];
-        i += 1;
-    }
-    bits
+    claims.iter().fold(0, |bits, claim| bits | *claim)
 }
 
 // The bits of a weight and of the weight raised so that one in range stays below 2 to the power 27.
@@ -65,13 +61,9 @@ fn raised(weight: u64) -> u64
 fn weight_bits(weights: &[u64]) -> u64
     ensures { Covered (length weights.now) (λ (i : ℕ). raised (at weights.now i)) result }
 {
-    let mut bits = 0;
-    let mut i = 0;
-    while i < weights.len() {
-        bits = bits | raised(weights[i]);
-        i += 1;
-    }
-    bits
+    weights
+        .iter()
+        .fold(0, |bits, weight| bits | raised(*weight))
 }
 
 // Whether the bits of all show that each is within its range.
@@ -86,14 +78,10 @@ fn some_out_of_range(claims: &[u64], weights: &[u64]) -> bool
     requires { length weights.now ≡ length claims.now }
     ensures { result ≡ not (all_to (length claims.now) (in_range claims.now weights.now)) }
 {
-    let mut i = 0;
-    while i < claims.len() {
-        if !in_range(claims[i], weights[i]) {
-            return true;
-        }
-        i += 1;
-    }
-    false
+    !claims
+        .iter()
+        .zip(weights)
+        .all(|(claim, weight)| in_range(*claim, *weight))
 }
 
 // Refusal 9: whether the pool, a claim or a weight is out of its range. Most lists are told by their bits alone.
@@ -110,18 +98,6 @@ fn unfit_numbers(pool: u64, claims: &[u64], weights: &[u64]) -> bool
     some_out_of_range(claims, weights)
 }
 
-// Grants each claim whole.
-fn grant_all(claims: &[u64], grants: &mut [u64])
-    requires { length grants.old ≡ length claims.now }
-    ensures { grants.new ≡ claims.now }
-{
-    let mut i = 0;
-    while i < claims.len() {
-        grants[i] = claims[i];
-        i += 1;
-    }
-}
-
 // The weight that a holder brings into W: its own if it is open.
 fn open_weight(unmet: u64, weight: u64) -> u64
     ensures { result ≡ pick (ltb 0 unmet && ltb 0 weight) weight 0 }
@@ -136,12 +112,10 @@ fn weigh_open(claims: &[u64], weights: &[u64], open_weights: &mut [u64; MOST_HOL
         Weighed result claims weights.now (none claims) open_weights.new }
 {
     let mut all = 0;
-    let mut i = 0;
-    while i < claims.len() {
-        let weight = open_weight(claims[i], weights[i]);
+    for (i, claim) in claims.iter().enumerate() {
+        let weight = open_weight(*claim, weights[i]);
         open_weights[i] = weight;
         all += weight;
-        i += 1;
     }
     all
 }
@@ -151,10 +125,7 @@ fn rate_of(left: u64, all: u64) -> u64
     requires { left ≤ most_kw }
     ensures { result ≡ left * kw_parts / all }
 {
-    if all == 0 {
-        return 0;
-    }
-    left * PARTS / all
+    (left * PARTS).checked_div(all).unwrap_or(0)
 }
 
 // left × weight / all rounded down, by the rate: the exact number of parts is at least weight × rate and at most
@@ -182,10 +153,11 @@ fn weight_after(part: u64, unmet: u64, weight: u64) -> u64
 fn want(singly: bool, unmet: u64, weight: u64) -> u64
     ensures { result ≡ pick singly (pick (ltb 0 weight) 1 0) unmet }
 {
-    if !singly {
-        return unmet;
+    if singly {
+        if 0 < weight { 1 } else { 0 }
+    } else {
+        unmet
     }
-    if 0 < weight { 1 } else { 0 }
 }
 
 // Serves holders in turn, lowest number first, until the pool is empty; hands back the kW given.
@@ -201,18 +173,14 @@ fn serve_in_turn(
         Raised result grants.new (length claims) g (in_turn left (wants singly claims open_weights.now g)) }
 {
     let mut rest = left;
-    let mut i = 0;
-    while i < claims.len() {
+    for (i, claim) in claims.iter().enumerate() {
         if rest == 0 {
             return left;
         }
-        let kw = smaller(
-            want(singly, excess(claims[i], grants[i]), open_weights[i]),
-            rest,
-        );
+        let unmet = claim.saturating_sub(grants[i]);
+        let kw = want(singly, unmet, open_weights[i]).min(rest);
         grants[i] += kw;
         rest -= kw;
-        i += 1;
     }
     left - rest
 }
@@ -254,17 +222,15 @@ fn by_passes(pool: u64, claims: &[u64], weights: &[u64], grants: &mut [u64]) -> 
         let rate = rate_of(left, all);
         let mut given = 0;
         let mut still_open = 0;
-        let mut i = 0;
-        while i < claims.len() {
-            let unmet = claims[i] - grants[i];
+        for (i, claim) in claims.iter().enumerate() {
+            let unmet = *claim - grants[i];
             let part = portion(left, open_weights[i], all, rate);
-            let kw = smaller(part, unmet);
+            let kw = part.min(unmet);
             grants[i] += kw;
             given += kw;
             let weight = weight_after(part, unmet, open_weights[i]);
             open_weights[i] = weight;
             still_open += weight;
-            i += 1;
         }
         left -= complete(given, left, all, claims, &open_weights, grants);
         all = still_open;
@@ -274,33 +240,42 @@ fn by_passes(pool: u64, claims: &[u64], weights: &[u64], grants: &mut [u64]) -> 
 }
 
 // Shares out what refusals 5 and 9 let pass: each claim whole where they fit, else by passes.
-fn share(pool: u64, claims: &[u64], weights: &[u64], grants: &mut [u64]) -> Answer
+fn share(pool: u64, claims: &[u64], weights: &[u64], grants: &mut [u64]) -> Granted
     requires { Accepted pool claims.now weights.now grants.old }
     ensures { let claims = claims.now in let weights = weights.now in
-        (result ≡ shared_answer pool claims weights) × (grants.new ≡ (shared pool claims weights).grants) }
+        (granted result.kw result.passes ≡ shared_answer pool claims weights)
+        × (grants.new ≡ (shared pool claims weights).grants) }
 {
     let total = vectors::sum_of(claims);
     if total <= pool {
-        grant_all(claims, grants);
-        return Answer::granted(total, 0);
+        grants.copy_from_slice(claims);
+        return Granted {
+            kw: total,
+            passes: 0,
+        };
     }
     vectors::clear(grants);
     let passes = by_passes(pool, claims, weights, grants);
-    Answer::granted(pool, passes)
+    Granted { kw: pool, passes }
 }
 
 // Shares the pool out over the claims by weight: writes a grant for each claim into the first places of
 // the output and answers the kW granted and the passes. Refused with 5 or 9 it writes nothing.
-pub fn share_out(pool: u64, claims: &[u64], weights: &[u64], output: &mut [u64]) -> Answer
+pub fn share_out(
+    pool: u64,
+    claims: &[u64],
+    weights: &[u64],
+    output: &mut [u64],
+) -> Result<Granted, Refusal>
     ensures { let made = share_out pool claims.now weights.now output.old in
-        (result ≡ made.answer) × (output.new ≡ made.output) }
+        (answer_of result ≡ made.answer) × (output.new ≡ made.output) }
 {
     let n = claims.len();
     if unfit_lengths(n, weights.len(), output.len()) {
-        return Answer::refused(refusals::ROOM);
+        return Err(Refusal::Room);
     }
     if unfit_numbers(pool, claims, weights) {
-        return Answer::refused(refusals::RANGE);
+        return Err(Refusal::Range);
     }
-    share(pool, claims, weights, &mut output[..n])
+    Ok(share(pool, claims, weights, &mut output[..n]))
 }

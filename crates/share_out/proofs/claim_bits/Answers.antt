@@ -1,14 +1,6 @@
-use Rattle.base.proofs.Prelude.{refl, arith, rules, at}
-use Rattle.share_out.proofs.NumberLaws.{covered_none, covered_more}
+use Rattle.base.proofs.Prelude.{rules}
+use Rattle.share_out.proofs.NumberLaws.{covers}
 use Rattle.share_out.proofs.claim_bits.Goals as goal
 
-pub loop-i-init : goal.loop-i-init
-loop-i-init c = (search rules, covered_none _)
-
-pub loop-i-preserved : goal.loop-i-preserved
-loop-i-preserved c =
-    let l = c.loop-i in
-    (search rules, covered_more (at c.args.claims.now) l.i l.bits _ l.invariant.1 refl)
-
 pub returns : goal.returns
-returns c = λ i l. c.loop-i.invariant.1 i (omega arith)
+returns c = covers (λ claim. claim) _ _ (search rules)

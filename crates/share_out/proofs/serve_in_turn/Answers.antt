@@ -16,12 +16,11 @@ overflow_add-grants c = let a = c.args in
     let later = served-later _ _ _ _ _ _ _ c.loop-i.invariant in
     omega (
       arith,
-      c.slice_known-in-loop-i-2-1.given i,
-      c.shared_slice_known-in-loop-i-1.given i,
-      wants-unmet a.singly (at a.open_weights.now i) c.excess.result c.want.result
-          (λ some. omega (arith, c.requires.unmet_there i c.loop-i-test.true some, later, c.excess.ensures)) c.want.ensures,
-      c.excess.ensures,
-      c.smaller-kw.ensures,
+      c.type_inv.claims i,
+      wants-unmet a.singly (at a.open_weights.now i) c.saturating_sub-unmet.result c.want.result
+          (λ some. omega (arith, c.requires.unmet_there i c.loop-i-test.true some, later, c.saturating_sub-unmet.ensures)) c.want.ensures,
+      c.saturating_sub-unmet.ensures,
+      c.min-kw.ensures,
     )
 
 pub loop-i-preserved : goal.loop-i-preserved
@@ -30,19 +29,13 @@ loop-i-preserved c =
     let s = c.loop-i.invariant in
     let i = c.loop-i.i in
     served-next _ _ _ _ _ _ i _ s c.loop-i-test.true
-    (c.smaller-kw.ensures
+    (c.min-kw.ensures
     ∙ ap (λ k. min k c.loop-i.rest)
     (wants_is a.singly a.claims.now a.open_weights.now a.grants.now c.loop-i.grants i _ _
     (served-later _ _ _ _ _ _ _ s)
-    c.excess.ensures
+    c.saturating_sub-unmet.ensures
     c.want.ensures))
 
 pub returns : goal.returns
 returns c =
     served-all _ _ _ _ _ _ _ c.requires.granted c.loop-i.invariant c.loop-i-test.false
-
-pub shape_of-grants-then-rest-eq0 : goal.shape_of-grants-then-rest-eq0
-shape_of-grants-then-rest-eq0 c = c.loop-i.invariant.size
-
-pub shape_of-grants : goal.shape_of-grants
-shape_of-grants c = c.loop-i.invariant.size

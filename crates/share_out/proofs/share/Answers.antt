@@ -1,31 +1,24 @@
 -- `share` meets its contract: its two answers are the definition's two cases.
-use Rattle.base.proofs.Prelude.{the, ℕ, ◌%◌, ◌^◌, ◌≡◌, sym, ap, ◌∙◌, arith, rules, at, tab}
-use Rattle.base.specs.Limits.{most_claim_kw}
-use Rattle.base.proofs.SumLaws.{sum_to-bound}
-use Rattle.base.proofs.VectorLaws.{sum-whole}
-use Rattle.share_out.specs.Rule.{Shared, claimed}
-use Rattle.share_out.proofs.NumberLaws.{fit-pool, fit-claims, fit-weights}
+use Rattle.base.proofs.Prelude.{sym, ap, ◌∙◌, arith, rules, tab}
+use Rattle.share_out.specs.Rule.{Shared}
+use Rattle.share_out.proofs.NumberLaws.{fit-pool, fit-weights}
 use Rattle.share_out.proofs.Promise.{shared-fits}
-use Rattle.share_out.proofs.OutcomeLaws.{answer-whole, answer-passes}
+use Rattle.share_out.proofs.OutcomeLaws.{claimed-whole, answer-whole, answer-passes}
 use Rattle.share_out.proofs.share.Goals as goal
 
 pub returns-then-total-pool : goal.returns-then-total-pool
-returns-then-total-pool c = let a = c.args in
-    let sum = (the ((r : ℕ) → r ≡ claimed c.args.claims.now % 2 ^ 64 → r ≡ claimed c.args.claims.now) (λ r e. let p = c.requires in
-    sum-whole r _ (at c.args.claims.now) e
-    (omega (arith, p.sized.few, sum_to-bound _ most_claim_kw (at c.args.claims.now) (fit-claims _ _ _ p.ranged))))) c.sum_of-total.result c.sum_of-total.ensures in
-    let fits = c.if-total-pool.true in (
-      c.granted.ensures ∙ answer-whole a.pool a.claims.now a.weights.now c.sum_of-total.result sum fits,
-      c.grant_all.ensures
+returns-then-total-pool c =
+    let a = c.args in
+    let sum = claimed-whole c.requires c.sum_of-total.ensures in (
+      answer-whole a.pool a.claims.now a.weights.now c.sum_of-total.result sum c.if-total-pool.true,
+      c.copy_from_slice.ensures.after
           ∙ sym (ap (λ (s : Shared). s.grants) (shared-fits a.pool a.claims.now a.weights.now (omega (arith, sum)))),
     )
 
 pub by_passes-passes-requires : goal.by_passes-passes-requires
 by_passes-passes-requires c =
     let p = c.requires in
-    let sum = (the ((r : ℕ) → r ≡ claimed c.args.claims.now % 2 ^ 64 → r ≡ claimed c.args.claims.now) (λ r e. let p = c.requires in
-    sum-whole r _ (at c.args.claims.now) e
-    (omega (arith, p.sized.few, sum_to-bound _ most_claim_kw (at c.args.claims.now) (fit-claims _ _ _ p.ranged))))) c.sum_of-total.result c.sum_of-total.ensures in
+    let sum = claimed-whole p c.sum_of-total.ensures in
     record {
       sized = record { few = p.sized.few; weighed = p.sized.weighed; granted = search rules };
       pooled = fit-pool _ _ _ p.ranged;
@@ -35,12 +28,10 @@ by_passes-passes-requires c =
     }
 
 pub returns : goal.returns
-returns c = let a = c.args in
-    let sum = (the ((r : ℕ) → r ≡ claimed c.args.claims.now % 2 ^ 64 → r ≡ claimed c.args.claims.now) (λ r e. let p = c.requires in
-    sum-whole r _ (at c.args.claims.now) e
-    (omega (arith, p.sized.few, sum_to-bound _ most_claim_kw (at c.args.claims.now) (fit-claims _ _ _ p.ranged))))) c.sum_of-total.result c.sum_of-total.ensures in
+returns c =
+    let a = c.args in
+    let sum = claimed-whole c.requires c.sum_of-total.ensures in
     let made = c.by_passes-passes.ensures in (
-      c.granted-2.ensures
-          ∙ answer-passes a.pool a.claims.now a.weights.now _ _ (omega (arith, sum, c.if-total-pool.false)) made,
+      answer-passes a.pool a.claims.now a.weights.now _ _ (omega (arith, sum, c.if-total-pool.false)) made,
       sym (ap (λ (s : Shared). s.grants) made),
     )

@@ -1,25 +1,15 @@
-use Rattle.base.proofs.Prelude.{◌≡◌, sym, ap, ◌∙◌, not, arith, length, rules}
-use borrow.Author.Tests.{not-true, not-false}
-use Rattle.base.proofs.SumLaws.{all_to-zero, all_to-more}
-use Rattle.share_out.proofs.NumberLaws.{holder-over}
+-- `some_out_of_range` meets its contract: the test of every pair of a claim and a weight is one of every place.
+use Rattle.std.proofs.Common.{ℕ, ap, ◌∙◌, not, leb, ◌&&◌, rules}
+use Rattle.std.proofs.lemmas.Iterator.{YieldsList-from_slice, YieldsList-from_zip}
+use Rattle.std.proofs.lemmas.Iterator.Search.{all_from_yields_List}
+use Rattle.base.proofs.Rules.{tests}
+use Rattle.base.proofs.ListLaws.{all_zipped}
 use Rattle.share_out.proofs.some_out_of_range.Goals as goal
-
-pub loop-i-init : goal.loop-i-init
-loop-i-init c = search (rules, all_to-zero)
-
-pub returns-then-not-in_range : goal.returns-then-not-in_range
-returns-then-not-in_range c =
-    let a = c.args in
-    sym
-    (holder-over a.claims.now a.weights.now c.loop-i.i c.loop-i-test.true (sym c.in_range.ensures ∙ not-true _ (ap not c.if-not-in_range.true)))
-
-pub loop-i-preserved : goal.loop-i-preserved
-loop-i-preserved c = (
-  search rules,
-  all_to-more _ _ c.loop-i.invariant.1 (sym c.in_range.ensures ∙ not-false _ (ap not c.if-not-in_range.false)),
-)
 
 pub returns : goal.returns
 returns c =
-    let end : c.loop-i.i ≡ length c.args.claims.now = omega arith in
-    sym (ap not (rw end at c.loop-i.invariant.1))
+    ap not
+    (all_from_yields_List (λ (q : ℕ × ℕ). leb q.0 20480000000 && leb q.1 100000000) c.all.new.self _ c.all.result c.all.ensures.ran
+    (YieldsList-from_zip (YieldsList-from_slice c.args.claims.now cc) (YieldsList-from_slice c.args.weights.now cc))
+    (λ x b q k. search (rules, tests))
+    ∙ all_zipped (λ claim weight. leb claim 20480000000 && leb weight 100000000) c.args.claims.now c.args.weights.now c.requires)
