@@ -3,7 +3,7 @@ use Prim.Native.Nat.{ℕ, ◌+◌, ◌≤◌, ◌<◌, min, zero-le}
 use mathlib.Core.Path.{◌≡◌, refl, sym, ap, ◌∙◌}
 use mathlib.Core.Bool.{Bool, true, false}
 use mathlib.Core.List.{List}
-use native.Mathlib.Nat.{min-eq_left, min-eq_right}
+use native.Mathlib.Nat.{min-eq_left}
 use native.Mathlib.Omega.{arith}
 use lib.Dec.{leb, eqb}
 use lib.ListN.{length, take, set, length-set}
@@ -13,6 +13,7 @@ use Rattle.base.specs.Sums.{sum_to, all_to}
 use Rattle.base.specs.Words.{at, tab, fill}
 use Rattle.base.specs.Answers.{refused, granted}
 use Rattle.base.specs.declared.Answer.{Answer}
+use Rattle.base.specs.declared.Granted.{Granted}
 use Rattle.base.proofs.SumLaws.{sum_to-zero, sum_to-more, sum_to-mono, sum_to-term, all_to-each}
 use Rattle.base.proofs.WordLaws.{take-tab, length-tab, at-tab, fill-whole}
 use Rattle.share_out.specs.Rule.{Outcome, shared, unfit_lengths, unfit_numbers, shared_answer, share_out}
@@ -43,11 +44,6 @@ module _ (i n : ℕ) (f : ℕ → ℕ) (first : List ℕ) where
         written = rw (s.written, e) (sym (fill_column-more i f first h));
       }
 
-  pub scattered-all : (table : List ℕ) (h : ℕ) → Scattered i n f first table h → n ≤ h → table ≡ fill_column i n f first
-  scattered-all table h s l =
-      let end : h ≡ n = omega (arith, s.inside) in
-      s.written ∙ ap (λ k. fill_column i k f first) end
-
 -- what a share-out answers and leaves, by its two refusals
 abbrev by_refusal : Bool → Bool → Answer → List ℕ → List ℕ → Outcome
 by_refusal five nine a output grants =
@@ -77,27 +73,32 @@ settled pool claims weights output empty n m =
     (fill (length claims) g empty) refl)
 
 -- claims that are gathered and the first weights are what the definition shares out over, and its output is scattered
-pub shared-on : (i H : ℕ) (pools claims weights claimed before output after-it grants after : List ℕ) (r : Answer) → H ≤ length weights →
+pub shared-on : (i H : ℕ) (pools claims weights claimed before output after-it grants after : List ℕ) (r : Answer) (g : Granted) → H ≤ length weights →
     claimed ≡ column claims H i → length before ≡ H → length output ≡ H →
     (r ≡ (share_out (at pools i) claimed (take (length claimed) weights) before).answer) × (output ≡ (share_out (at pools i) claimed (take (length claimed) weights) before).output) →
-    after-it ≡ pick (eqb r.refusal 0) output (tab (length output) (λ h. 0)) →
-    after ≡ fill_column i (length after-it) (at after-it) grants → SharedOn i H pools claims weights grants r after
+    (g.kw ≡ r.kw) × (g.passes ≡ r.passes) × (after-it ≡ pick (eqb r.refusal 0) output (tab (length output) (λ h. 0))) →
+    after ≡ fill_column i (length after-it) (at after-it) grants → SharedOn i H pools claims weights grants g after
 unfolding among_holders
-shared-on i H pools claims weights claimed before output after-it grants after r enough c room size o f a =
+shared-on i H pools claims weights claimed before output after-it grants after r g enough c room size o f a =
     let n : length claimed ≡ H = ap (λ l. length l) c ∙ length-tab H (λ h. at_pair claims h i) in
     let empty : List ℕ = tab H (λ h. 0) in
     let made : Outcome = share_out (at pools i) claimed (take (length claimed) weights) before in
     let s = settled (at pools i) claimed (take (length claimed) weights) before empty (room ∙ sym n) (length-tab H (λ h. 0) ∙ sym n) in
     let same : share_out (at pools i) claimed (take (length claimed) weights) empty ≡ share_out_on H (at pools) (at_pair claims) (at weights) i =
     rw (n, take-tab H weights enough, c) in
-    let cleared : after-it ≡ pick (eqb r.refusal 0) output empty = rw size at f in
+    let cleared : after-it ≡ pick (eqb r.refusal 0) output empty = rw size at f.2 in
+    let answer : r ≡ (share_out_on H (at pools) (at_pair claims) (at weights) i).answer = o.0 ∙ s.0 ∙ ap (λ (x : Outcome). x.answer) same in
     let out : after-it ≡ (share_out_on H (at pools) (at_pair claims) (at weights) i).output =
     cleared
     ∙ ap (λ (x : Answer). pick (eqb x.refusal 0) output empty) o.0
     ∙ ap (λ (l : List ℕ). pick (eqb made.answer.refusal 0) l empty) o.1
     ∙ s.1 ∙ ap (λ (x : Outcome). x.output) same in
     let m : length after-it ≡ H = ap (λ l. length l) out ∙ (kept_on H (at pools) (at_pair claims) (at weights) i).size in
-    record { answer = o.0 ∙ s.0 ∙ ap (λ (x : Outcome). x.answer) same; column = a ∙ rw (m, out) }
+    record {
+      kw = f.0 ∙ ap (λ (x : Answer). x.kw) answer;
+      passes = f.1 ∙ ap (λ (x : Answer). x.passes) answer;
+      column = a ∙ rw (m, out);
+    }
 
 -- after h of n claims, together still within the pool
 pub record Claiming (n pool : ℕ) (f : ℕ → ℕ) (total h : ℕ) : Type 0 where
@@ -118,18 +119,12 @@ module _ (n pool : ℕ) (f : ℕ → ℕ) where
       let all : pool + 1 ≤ sum_to n f = omega (arith, s.sum, sum_to-more h f, sum_to-mono (h + 1) n f (omega arith)) in
       sym (min-eq_left all)
 
-  pub claiming-all : (total h : ℕ) → Claiming n pool f total h → n ≤ h → total ≡ min (pool + 1) (sum_to n f)
-  claiming-all total h s l =
-      let end : h ≡ n = omega (arith, s.inside) in
-      let all : total ≡ sum_to n f = s.sum ∙ ap (λ k. sum_to k f) end in
-      let low : sum_to n f ≤ pool + 1 = omega (arith, s.within) in
-      all ∙ sym (min-eq_right low)
-
 -- claims together within the pool are met whole
-pub met-on : (i H total : ℕ) (pools claims weights grants after : List ℕ) (r : Answer) → H ≤ 32 → at pools i ≤ 20000000 →
+pub met-on : (i H total : ℕ) (pools claims weights grants after : List ℕ) → H ≤ 32 → at pools i ≤ 20000000 →
     all_to H (λ h. leb (at weights h) 100000000) ≡ true → total ≡ min (at pools i + 1) (sum_to H (λ h. at_pair claims h i)) → total ≤ at pools i →
-    after ≡ fill_column i H (λ h. at_pair claims h i) grants → r ≡ granted total 0 → SharedOn i H pools claims weights grants r after
-met-on i H total pools claims weights grants after r few small light t fit a g =
+    after ≡ fill_column i H (λ h. at_pair claims h i) grants →
+    SharedOn i H pools claims weights grants (record { kw = total; passes = 0 }) after
+met-on i H total pools claims weights grants after few small light t fit a =
     let all : total ≡ sum_to H (λ h. at_pair claims h i) = omega arith in
     let within : sum_to H (λ h. at_pair claims h i) ≤ at pools i = omega arith in
     let ranged : Ranged H (at pools i) (λ h. at_pair claims h i) (at weights) =
@@ -142,7 +137,8 @@ met-on i H total pools claims weights grants after r few small light t fit a g =
     let met : share_out_on H (at pools) (at_pair claims) (at weights) i ≡ record { answer = granted (sum_to H (λ h. at_pair claims h i)) 0; output = column claims H i } =
     among-fits H (at pools i) (λ h. at_pair claims h i) (at weights) ranged within in
     record {
-      answer = g ∙ rw (all, met);
+      kw = rw (all, met);
+      passes = rw met;
       column = a ∙ rw met (fill_column-same i H (λ h. at_pair claims h i) (at (column claims H i)) grants (λ h l. sym (at-tab H (λ h. at_pair claims h i) h l)));
     }
 
@@ -169,14 +165,21 @@ module _ (I H : ℕ) (pools claims weights first : List ℕ) where
         written = sym (fill_table-zero H (grant_on H (at pools) (at_pair claims) (at weights)) first);
       }
 
+  -- the sums stay within 48 pools
+  pub over-small : (grants : List ℕ) (k p i : ℕ) → Over I H pools claims weights first grants k p i → I ≤ 48 →
+      (k ≤ 960000000) × (p ≤ 960000000)
+  over-small grants k p i s few =
+      let kw : k ≤ 960000000 = omega (arith, s.inside, s.kw, kw-most H (at pools) (at_pair claims) (at weights) i) in
+      (kw, omega (arith, s.kw, s.passes, passes-most H (at pools) (at_pair claims) (at weights) i))
+
   -- one intertie more
-  module _ (grants after : List ℕ) (k p i : ℕ) (r : Answer) (s : Over I H pools claims weights first grants k p i) (l : i < I)
+  module _ (grants after : List ℕ) (k p i : ℕ) (r : Granted) (s : Over I H pools claims weights first grants k p i) (l : i < I)
       (d : SharedOn i H pools claims weights grants r after) where
     kw-next : k + r.kw ≡ kw_over H (at pools) (at_pair claims) (at weights) (i + 1)
-    kw-next = rw (s.kw, d.answer) (sym (sum_to-more i (λ i. (on i).answer.kw)))
+    kw-next = rw (s.kw, d.kw) (sym (sum_to-more i (λ i. (on i).answer.kw)))
 
     passes-next : p + r.passes ≡ passes_over H (at pools) (at_pair claims) (at weights) (i + 1)
-    passes-next = rw (s.passes, d.answer) (sym (sum_to-more i (λ i. (on i).answer.passes)))
+    passes-next = rw (s.passes, d.passes) (sym (sum_to-more i (λ i. (on i).answer.passes)))
 
     pub over-next : Over I H pools claims weights first after (k + r.kw) (p + r.passes) (i + 1)
     over-next =
@@ -188,17 +191,13 @@ module _ (I H : ℕ) (pools claims weights first : List ℕ) where
           written = d.column ∙ rw s.written (sym (fill_table-more H (grant_on H (at pools) (at_pair claims) (at weights)) first i));
         }
 
-  -- the sums stay within 48 pools
-  pub over-small : (grants : List ℕ) (k p i : ℕ) → Over I H pools claims weights first grants k p i → I ≤ 48 →
-      (k ≤ 960000000) × (p ≤ 960000000)
-  over-small grants k p i s few =
-      let kw : k ≤ 960000000 = omega (arith, s.inside, s.kw, kw-most H (at pools) (at_pair claims) (at weights) i) in
-      (kw, omega (arith, s.kw, s.passes, passes-most H (at pools) (at_pair claims) (at weights) i))
+    pub over-fits : I ≤ 48 → (k + r.kw ≤ 960000000) × (p + r.passes ≤ 960000000)
+    over-fits few = over-small after (k + r.kw) (p + r.passes) (i + 1) over-next few
 
   -- after all interties
-  pub over-all : (grants : List ℕ) (k p i : ℕ) (r : Answer) → Over I H pools claims weights first grants k p i → I ≤ i →
-      Sized I H pools claims weights first → r ≡ granted k p →
-      (r ≡ (share_out_each I H pools claims weights first).answer) × (grants ≡ (share_out_each I H pools claims weights first).output)
-  over-all grants k p i r s l fit a =
+  pub over-all : (grants : List ℕ) (k p i : ℕ) → Over I H pools claims weights first grants k p i → I ≤ i →
+      Sized I H pools claims weights first →
+      (granted k p ≡ (share_out_each I H pools claims weights first).answer) × (grants ≡ (share_out_each I H pools claims weights first).output)
+  over-all grants k p i s l fit =
       let end : i ≡ I = omega (arith, s.inside) in
-      rw (each-done I H pools claims weights first fit, ← end) ((a ∙ rw (s.kw, s.passes)), s.written)
+      rw (each-done I H pools claims weights first fit, ← end) (rw (s.kw, s.passes), s.written)

@@ -3,8 +3,10 @@
 #![tactic(auto)]
 
 ghost use Rattle.std.specs.Prelude.{◌≡◌, ◌+◌, ◌≤◌, min, leb, eqb, length};
+ghost use Rattle.base.specs.Answers.{granted};
 ghost use Rattle.base.specs.Choice.{pick};
 ghost use Rattle.base.specs.Limits.{most_kw, most_load_share};
+ghost use Rattle.base.specs.Refused.{answer_of};
 ghost use Rattle.base.specs.Sums.{sum_to, all_to};
 ghost use Rattle.base.specs.Words.{at, tab};
 ghost use Rattle.intertie_shares.specs.Pairs.{at_pair, column, fill_column};
@@ -12,7 +14,8 @@ ghost use Rattle.intertie_shares.specs.Rule.{unfit_sizes, share_out_each};
 ghost use Rattle.intertie_shares.specs.Workers.Fit.{Sized, InTable, SharedOn};
 
 use base::limits::{MOST_HOLDERS, MOST_INTERTIES, MOST_KW, MOST_LOAD_SHARE, MOST_PAIRS};
-use base::{Answer, refusals, vectors};
+use base::refusals::Refusal;
+use base::{Granted, vectors};
 
 // Refusal 5: whether a size is over its limit, a pool or a weight is missing, or a table is short.
 fn unfit_sizes(
@@ -36,20 +39,23 @@ fn gather(table: &[u64], intertie: usize, words: &mut [u64])
     requires { InTable intertie (length words.old) table.now }
     ensures { words.new ≡ column table.now (length words.old) intertie }
 {
-    let mut h = 0;
-    while h < words.len() {
-        words[h] = table[MOST_INTERTIES * h + intertie];
-        h += 1;
+    for (h, word) in words.iter_mut().enumerate() {
+        *word = table[MOST_INTERTIES * h + intertie];
     }
 }
 
-// Clears the output of a share-out that was refused, which has left it as it was.
-fn settle(refusal: u32, output: &mut [u64])
-    ensures { let before = output.old in
-        output.new ≡ pick (eqb refusal 0) before (tab (length before) (λ h. 0)) }
+// What a share-out granted. One that was refused has left its output as it was: it is cleared, and grants nothing.
+fn settle(made: Result<Granted, Refusal>, output: &mut [u64]) -> Granted
+    ensures { let answer = answer_of made in let before = output.old in
+        (result.kw ≡ answer.kw) × (result.passes ≡ answer.passes)
+        × (output.new ≡ pick (eqb answer.refusal 0) before (tab (length before) (λ h. 0))) }
 {
-    if refusal != 0 {
-        vectors::clear(output);
+    match made {
+        Ok(granted) => granted,
+        Err(_) => {
+            vectors::clear(output);
+            Granted { kw: 0, passes: 0 }
+        }
     }
 }
 
@@ -59,10 +65,8 @@ fn scatter(words: &[u64], intertie: usize, table: &mut [u64])
     ensures { let words = words.now in
         table.new ≡ fill_column intertie (length words) (at words) table.old }
 {
-    let mut h = 0;
-    while h < words.len() {
-        table[MOST_INTERTIES * h + intertie] = words[h];
-        h += 1;
+    for (h, word) in words.iter().enumerate() {
+        table[MOST_INTERTIES * h + intertie] = *word;
     }
 }
 
@@ -72,14 +76,12 @@ fn claimed_on(pool: u64, claims: &[u64], intertie: usize, holders: usize) -> u64
     ensures { result ≡ min (pool + 1) (sum_to holders (λ h. at_pair claims.now h intertie)) }
 {
     let mut total = 0;
-    let mut h = 0;
-    while h < holders {
+    for h in 0..holders {
         let claim = claims[MOST_INTERTIES * h + intertie];
         if pool - total < claim {
             return pool + 1;
         }
         total += claim;
-        h += 1;
     }
     total
 }
@@ -90,10 +92,8 @@ fn grant_claims(claims: &[u64], intertie: usize, holders: usize, grants: &mut [u
     ensures { let claim = at_pair claims.now in
         grants.new ≡ fill_column intertie holders (λ h. claim h intertie) grants.old }
 {
-    let mut h = 0;
-    while h < holders {
+    for h in 0..holders {
         grants[MOST_INTERTIES * h + intertie] = claims[MOST_INTERTIES * h + intertie];
-        h += 1;
     }
 }
 
@@ -106,7 +106,7 @@ fn share_out_gathered(
     claimed: &mut [u64],
     output: &mut [u64],
     grants: &mut [u64],
-) -> Answer
+) -> Granted
     requires { Sized (intertie + 1) (length claimed.old) pools.now claims.now weights.now grants.old
         × (length output.old ≡ length claimed.old) }
     ensures { SharedOn intertie (length claimed.old) pools.now claims.now
@@ -114,10 +114,10 @@ fn share_out_gathered(
 {
     gather(claims, intertie, claimed);
     let holders = claimed.len();
-    let answer = share_out::share_out(pools[intertie], claimed, &weights[..holders], output);
-    settle(answer.refusal, output);
+    let made = share_out::share_out(pools[intertie], claimed, &weights[..holders], output);
+    let granted = settle(made, output);
     scatter(output, intertie, grants);
-    answer
+    granted
 }
 
 // The same. Claims that are together within the pool are met without gathering them, where weights and pool are
@@ -131,7 +131,7 @@ fn share_out_on(
     claimed: &mut [u64],
     output: &mut [u64],
     grants: &mut [u64],
-) -> Answer
+) -> Granted
     requires { Sized (intertie + 1) (length claimed.old) pools.now claims.now weights.now grants.old
         × (length output.old ≡ length claimed.old)
         × (weighable ≡ all_to (length claimed.old) (λ h. leb (at weights.now h) most_load_share)) }
@@ -143,13 +143,16 @@ fn share_out_on(
         let total = claimed_on(pool, claims, intertie, claimed.len());
         if total <= pool {
             grant_claims(claims, intertie, claimed.len(), grants);
-            return Answer::granted(total, 0);
+            return Granted {
+                kw: total,
+                passes: 0,
+            };
         }
     }
     share_out_gathered(intertie, pools, claims, weights, claimed, output, grants)
 }
 
-// Shares out on each intertie in turn; answers kW and passes over all.
+// Shares out on each intertie in turn; hands back kW and passes over all.
 fn on_each(
     interties: usize,
     pools: &[u64],
@@ -158,27 +161,25 @@ fn on_each(
     claimed: &mut [u64],
     output: &mut [u64],
     grants: &mut [u64],
-) -> Answer
+) -> Granted
     requires { Sized interties (length claimed.old) pools.now claims.now weights.now grants.old
         × (length output.old ≡ length claimed.old) }
     ensures { let holders = length claimed.old in
         let made = share_out_each interties holders pools.now claims.now weights.now grants.old in
-        (result ≡ made.answer) × (grants.new ≡ made.output) }
+        (granted result.kw result.passes ≡ made.answer) × (grants.new ≡ made.output) }
 {
     let holders = claimed.len();
     let weighable = vectors::all_within(&weights[..holders], MOST_LOAD_SHARE);
     let mut kw = 0;
     let mut passes = 0;
-    let mut i = 0;
-    while i < interties {
-        let answer = share_out_on(
+    for i in 0..interties {
+        let granted = share_out_on(
             i, weighable, pools, claims, weights, claimed, output, grants,
         );
-        kw += answer.kw;
-        passes += answer.passes;
-        i += 1;
+        kw += granted.kw;
+        passes += granted.passes;
     }
-    Answer::granted(kw, passes)
+    Granted { kw, passes }
 }
 
 // Shares each intertie's pool out over the holders' claims there, by weight: writes a grant for each
@@ -190,9 +191,9 @@ pub fn share_out_each(
     claims: &[u64],
     weights: &[u64],
     grants: &mut [u64],
-) -> Answer
+) -> Result<Granted, Refusal>
     ensures { let made = share_out_each interties holders pools.now claims.now weights.now grants.old in
-        (result ≡ made.answer) × (grants.new ≡ made.output) }
+        (answer_of result ≡ made.answer) × (grants.new ≡ made.output) }
 {
     if unfit_sizes(
         interties,
@@ -202,11 +203,11 @@ pub fn share_out_each(
         weights.len(),
         grants.len(),
     ) {
-        return Answer::refused(refusals::ROOM);
+        return Err(Refusal::Room);
     }
     let mut claimed = [0u64; MOST_HOLDERS];
     let mut output = [0u64; MOST_HOLDERS];
-    on_each(
+    Ok(on_each(
         interties,
         pools,
         claims,
@@ -214,5 +215,5 @@ pub fn share_out_each(
         &mut claimed[..holders],
         &mut output[..holders],
         grants,
-    )
+    ))
 }

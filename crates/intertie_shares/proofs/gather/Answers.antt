@@ -1,4 +1,4 @@
-use Rattle.base.proofs.Prelude.{rules}
+use Rattle.base.proofs.Prelude.{arith, rules}
 use Rattle.base.proofs.VectorLaws.{filling-none, filling-next, filling-all}
 use Rattle.intertie_shares.proofs.gather.Goals as goal
 
@@ -9,4 +9,4 @@ pub loop-h-preserved : goal.loop-h-preserved
 loop-h-preserved c = search (rules, filling-next)
 
 pub returns : goal.returns
-returns c = search (rules, filling-all)
+returns c = filling-all _ _ _ _ c.loop-h.invariant (omega arith)

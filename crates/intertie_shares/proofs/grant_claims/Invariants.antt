@@ -1,11 +1,7 @@
 -- `grant_claims` meets its contract: after h turns the first h holders have their claims.
-use Rattle.base.proofs.Prelude.{◌-◌}
 use Rattle.intertie_shares.specs.Pairs.{at_pair}
 use Rattle.intertie_shares.proofs.LoopLaws.{Scattered}
 use Rattle.intertie_shares.proofs.grant_claims.Given as goal
 
 abbrev pub invariant-loop-h : goal.invariant-loop-h
 invariant-loop-h l = Scattered l.intertie l.holders (λ k. at_pair l.claims k l.intertie) l.initial.grants l.grants l.h
-
-abbrev pub decreases-loop-h : goal.decreases-loop-h
-decreases-loop-h l = l.holders - l.h

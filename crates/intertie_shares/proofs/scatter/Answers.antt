@@ -1,5 +1,5 @@
 use Rattle.base.proofs.Prelude.{rules}
-use Rattle.intertie_shares.proofs.LoopLaws.{scattered-none, scattered-next, scattered-all}
+use Rattle.intertie_shares.proofs.LoopLaws.{scattered-none, scattered-next}
 use Rattle.intertie_shares.proofs.scatter.Goals as goal
 
 pub loop-h-init : goal.loop-h-init
@@ -7,6 +7,3 @@ loop-h-init c = search (rules, scattered-none)
 
 pub loop-h-preserved : goal.loop-h-preserved
 loop-h-preserved c = search (rules, scattered-next)
-
-pub returns : goal.returns
-returns c = search (rules, scattered-all)

@@ -2,7 +2,7 @@
 use Rattle.std.specs.Prelude.{ℕ, ◌≤◌, ◌<◌, ◌≡◌, List, length}
 use Rattle.base.specs.Limits.{most_interties, most_holders, most_pairs}
 use Rattle.base.specs.Words.{at}
-use Rattle.base.specs.declared.Answer.{Answer}
+use Rattle.base.specs.declared.Granted.{Granted}
 use Rattle.intertie_shares.specs.Pairs.{at_pair, fill_column}
 use Rattle.intertie_shares.specs.Rule.{share_out_on}
 
@@ -21,7 +21,8 @@ pub record InTable (i H : ℕ) (table : List ℕ) : Type 0 where
   pub holders : H ≤ most_holders
   pub whole : most_pairs ≤ length table
 
--- intertie i is shared out: r is the answer, and the table of grants has its column
-pub record SharedOn (i H : ℕ) (pools claims weights grants : List ℕ) (r : Answer) (after : List ℕ) : Type 0 where
-  pub answer : r ≡ (share_out_on H (at pools) (at_pair claims) (at weights) i).answer
+-- intertie i is shared out: r has the kW and the passes of the answer, and the table of grants has its column
+pub record SharedOn (i H : ℕ) (pools claims weights grants : List ℕ) (r : Granted) (after : List ℕ) : Type 0 where
+  pub kw : r.kw ≡ (share_out_on H (at pools) (at_pair claims) (at weights) i).answer.kw
+  pub passes : r.passes ≡ (share_out_on H (at pools) (at_pair claims) (at weights) i).answer.passes
   pub column : after ≡ fill_column i H (at (share_out_on H (at pools) (at_pair claims) (at weights) i).output) grants
