@@ -11,8 +11,8 @@ use borrow.Author.Tests.{le-leb, lt-leb, eq-eqb, leb-true, eqb-true}
 use Rattle.base.specs.Choice.{pick}
 use Rattle.base.specs.Sums.{all_to}
 use Rattle.base.specs.Words.{at}
-use Rattle.base.proofs.ChoiceLaws.{pick-by, and_left, and_right, and_both, and-false}
-use Rattle.base.proofs.SumLaws.{sum_to-bound, all_to-fails, all_to-each, all_to-all}
+use Rattle.base.proofs.ChoiceLaws.{pick-by, and_left, and_right, and_both}
+use Rattle.base.proofs.SumLaws.{sum_to-bound, all_to-each, all_to-all}
 use Rattle.step_5.specs.Round.{eligible, together, gross_remaining, eligible_loads}
 use Rattle.step_5.specs.Outcome.{fit_lengths, in_range, fit_numbers}
 use Rattle.step_5.specs.Workers.Fit.{Marks, Accepted, Addends, Factors}
@@ -22,10 +22,9 @@ pub total-over : (total : ℕ) (held loads : List ℕ) → 2880000000 < total �
 unfolding fit_numbers
 total-over total held loads h = rw (lt-leb total 2880000000 h)
 
-pub holder-over : (total : ℕ) (held loads : List ℕ) (i : ℕ) → i < length held → in_range held loads i ≡ false → fit_numbers total held loads ≡ false
+pub by-holders : (total : ℕ) (held loads : List ℕ) → total ≤ 2880000000 → all_to (length held) (in_range held loads) ≡ fit_numbers total held loads
 unfolding fit_numbers
-holder-over total held loads i l h =
-    and-false (leb total 2880000000) _ (all_to-fails (length held) (in_range held loads) i l h)
+by-holders total held loads h = rw (le-leb total 2880000000 h)
 
 pub all_fit : (total : ℕ) (held loads : List ℕ) → total ≤ 2880000000 → all_to (length held) (in_range held loads) ≡ true → fit_numbers total held loads ≡ true
 unfolding fit_numbers

@@ -11,7 +11,6 @@ ghost use Rattle.step_5.specs.Outcome.{fit_lengths, fit_numbers, step5};
 ghost use Rattle.step_5.specs.Workers.Fit.{Marks, Accepted, Addends, Factors, Quota};
 
 use base::limits::{MOST_HELD_KW, MOST_HOLDERS, MOST_LOAD_SHARE};
-use base::numbers::excess;
 
 // The mark of a holder that may yet get a share.
 const ELIGIBLE: u8 = 0;
@@ -38,17 +37,11 @@ fn fit_numbers(total: u64, held: &[u64], loads: &[u64]) -> bool
     requires { length loads.now ≡ length held.now }
     ensures { result ≡ fit_numbers total held.now loads.now }
 {
-    if MOST_HELD_KW < total {
-        return false;
-    }
-    let mut i = 0;
-    while i < held.len() {
-        if !in_range(held[i], loads[i]) {
-            return false;
-        }
-        i += 1;
-    }
-    true
+    total <= MOST_HELD_KW
+        && held
+            .iter()
+            .zip(loads)
+            .all(|(held, load)| in_range(*held, *load))
 }
 
 // The number if a holder's own mark is the one asked for, else 0.
@@ -64,10 +57,8 @@ fn sum_marked(mark: u8, marks: &[u8], numbers: &[u64]) -> u64
     ensures { let numbers = numbers.now in result ≡ together (length numbers) mark marks.now numbers }
 {
     let mut sum = 0;
-    let mut i = 0;
-    while i < numbers.len() {
-        sum += if_marked(marks[i], mark, numbers[i]);
-        i += 1;
+    for (i, number) in numbers.iter().enumerate() {
+        sum += if_marked(marks[i], mark, *number);
     }
     sum
 }
@@ -77,7 +68,7 @@ fn gross_remaining(total: u64, held: &[u64], marks: &[u8]) -> u64
     requires { Addends marks.now held.now }
     ensures { result ≡ gross_remaining total held.now marks.now }
 {
-    excess(total, sum_marked(EXCLUDED, marks, held))
+    total.saturating_sub(sum_marked(EXCLUDED, marks, held))
 }
 
 // 1 if a round excludes the holder: eligible, and held × V, which is `all`, at least G × load share.
@@ -85,11 +76,7 @@ fn newly_excluded(mark: u8, held: u64, load: u64, gross: u64, all: u64) -> u8
     requires { Factors held load gross all }
     ensures { result ≡ pick (eqb mark eligible && leb (gross * load) (held * all)) 1 0 }
 {
-    if (mark == ELIGIBLE) & (gross * load <= held * all) {
-        1
-    } else {
-        0
-    }
+    u8::from((mark == ELIGIBLE) & (gross * load <= held * all))
 }
 
 // Makes one round: excludes its holders together and hands back how many they are.
@@ -101,12 +88,10 @@ fn exclude_round(total: u64, held: &[u64], loads: &[u64], marks: &mut [u8]) -> u
     let gross = gross_remaining(total, held, marks);
     let all = sum_marked(ELIGIBLE, marks, loads);
     let mut newly = 0;
-    let mut i = 0;
-    while i < held.len() {
-        let out = newly_excluded(marks[i], held[i], loads[i], gross, all);
-        marks[i] += out;
+    for (i, mark) in marks.iter_mut().enumerate() {
+        let out = newly_excluded(*mark, held[i], loads[i], gross, all);
+        *mark += out;
         newly += out;
-        i += 1;
     }
     newly
 }
@@ -143,10 +128,8 @@ fn write_shares(total: u64, held: &[u64], loads: &[u64], marks: &[u8], shares: &
 {
     let gross = gross_remaining(total, held, marks);
     let all = sum_marked(ELIGIBLE, marks, loads);
-    let mut i = 0;
-    while i < held.len() {
-        shares[i] = share_of(marks[i], held[i], loads[i], gross, all);
-        i += 1;
+    for (i, share) in shares.iter_mut().enumerate() {
+        *share = share_of(marks[i], held[i], loads[i], gross, all);
     }
 }
 

@@ -1,28 +1,22 @@
-use Rattle.std.proofs.Common.{ap, not}
-use Rattle.base.proofs.Prelude.{◌≡◌, sym, ◌∙◌, arith, length, rules}
-use borrow.Author.Tests.{not-true, not-false}
-use Rattle.base.proofs.SumLaws.{all_to-zero, all_to-more}
-use Rattle.step_5.proofs.FitLaws.{total-over, holder-over, all_fit}
+-- `fit_numbers` meets its contract: T is tested first, then every pair of a holder's numbers.
+use Rattle.std.proofs.Common.{ℕ, sym, ◌∙◌, leb, ◌&&◌, rules}
+use borrow.Author.Tests.{lt-leb}
+use Rattle.std.proofs.lemmas.Iterator.{YieldsList-from_slice, YieldsList-from_zip}
+use Rattle.std.proofs.lemmas.Iterator.Search.{all_from_yields_List}
+use Rattle.base.proofs.Rules.{tests}
+use Rattle.base.proofs.ListLaws.{all_zipped}
+use Rattle.step_5.proofs.FitLaws.{total-over, by-holders}
 use Rattle.step_5.proofs.fit_numbers.Goals as goal
 
-pub returns-then-not-in_range : goal.returns-then-not-in_range
-returns-then-not-in_range c =
-    sym
-    (holder-over _ _ _ c.loop-i.i (search rules) (sym c.in_range.ensures ∙ not-true _ (ap not c.if-not-in_range.true)))
+pub returns-then-total-le-MOST_HELD_KW : goal.returns-then-total-le-MOST_HELD_KW
+returns-then-total-le-MOST_HELD_KW c =
+    all_from_yields_List (λ (q : ℕ × ℕ). leb q.0 2880000000 && leb q.1 100000000) c.all.new.self _ c.all.result c.all.ensures.ran
+    (YieldsList-from_zip (YieldsList-from_slice c.args.held.now cc) (YieldsList-from_slice c.args.loads.now cc))
+    (λ x b q k. search (rules, tests))
+    ∙ all_zipped (λ held load. leb held 2880000000 && leb load 100000000) c.args.held.now c.args.loads.now c.requires
+    ∙ by-holders _ _ _ c.if-total-le-MOST_HELD_KW.true
 
-pub loop-i-preserved : goal.loop-i-preserved
-loop-i-preserved c = (
-  search rules,
-  all_to-more _ _ c.loop-i.invariant.1 (sym c.in_range.ensures ∙ not-false _ (ap not c.if-not-in_range.false)),
-)
-
-pub returns : goal.returns
-returns c =
-    let end : c.loop-i.i ≡ length c.args.held.now = omega arith in
-    sym (all_fit _ _ _ (search rules) (rw end at c.loop-i.invariant.1))
-
-pub returns-then-total-gt-MOST_HELD_KW : goal.returns-then-total-gt-MOST_HELD_KW
-returns-then-total-gt-MOST_HELD_KW c = search (rules, total-over)
-
-pub loop-i-init : goal.loop-i-init
-loop-i-init c = search (rules, all_to-zero)
+pub returns-else-total-le-MOST_HELD_KW : goal.returns-else-total-le-MOST_HELD_KW
+returns-else-total-le-MOST_HELD_KW c =
+    let over = c.if-total-le-MOST_HELD_KW.false in
+    lt-leb _ _ over ∙ sym (total-over _ _ _ over)

@@ -5,4 +5,4 @@ use Rattle.step_5.proofs.gross_remaining.Goals as goal
 
 pub returns : goal.returns
 unfolding gross_remaining
-returns c = c.excess.ensures ∙ ap (λ k. c.args.total - k) c.sum_marked.ensures
+returns c = c.saturating_sub.ensures ∙ ap (λ k. c.args.total - k) c.sum_marked.ensures

@@ -1,6 +1,6 @@
 -- `step_5_shares` meets its contract: lists that don't fit, numbers that don't, and the shares.
 use Rattle.std.proofs.Common.{not}
-use Rattle.base.proofs.Prelude.{the, sym, ap, ◌∙◌, ◌++◌, length, drop, replicate}
+use Rattle.base.proofs.Prelude.{the, sym, ap, ◌∙◌, ◌++◌, length, drop}
 use borrow.Author.Tests.{not-true, not-false}
 use lib.Seq.{length-take-le}
 use Rattle.step_5.specs.Outcome.{Outcome}
@@ -42,23 +42,3 @@ returns c =
           FitLengths (length a.held.now) (length a.loads.now) (length a.shares.now))) (fit-lengths _ _ _ (sym c.fit_lengths.ensures ∙ not-false _ (ap not c.if-not-fit_lengths.false)))).room)
           ∙ sym (ap (λ (r : Outcome). r.output) o),
     )
-
-pub fit_numbers-requires : goal.fit_numbers-requires
-fit_numbers-requires c = (the ((let a = c.args in
-    FitLengths (length a.held.now) (length a.loads.now) (length a.shares.now))) (fit-lengths _ _ _ (sym c.fit_lengths.ensures ∙ not-false _ (ap not c.if-not-fit_lengths.false)))).paired
-
-pub slice_bounds-marks-end : goal.slice_bounds-marks-end
-slice_bounds-marks-end c = (the ((let a = c.args in
-    FitLengths (length a.held.now) (length a.loads.now) (length a.shares.now))) (fit-lengths _ _ _ (sym c.fit_lengths.ensures ∙ not-false _ (ap not c.if-not-fit_lengths.false)))).few
-
-pub slice_bounds-assign-end : goal.slice_bounds-assign-end
-slice_bounds-assign-end c = sym (length-take-le _ (replicate 32 0) (the ((let a = c.args in
-    FitLengths (length a.held.now) (length a.loads.now) (length a.shares.now))) (fit-lengths _ _ _ (sym c.fit_lengths.ensures ∙ not-false _ (ap not c.if-not-fit_lengths.false)))).few)
-
-pub slice_bounds-assign-end-2 : goal.slice_bounds-assign-end-2
-slice_bounds-assign-end-2 c = (the ((let a = c.args in
-    FitLengths (length a.held.now) (length a.loads.now) (length a.shares.now))) (fit-lengths _ _ _ (sym c.fit_lengths.ensures ∙ not-false _ (ap not c.if-not-fit_lengths.false)))).room
-
-pub slice_bounds-assign-end-3 : goal.slice_bounds-assign-end-3
-slice_bounds-assign-end-3 c = sym (length-take-le _ _ (the ((let a = c.args in
-    FitLengths (length a.held.now) (length a.loads.now) (length a.shares.now))) (fit-lengths _ _ _ (sym c.fit_lengths.ensures ∙ not-false _ (ap not c.if-not-fit_lengths.false)))).room)

@@ -16,14 +16,14 @@ sum_marked-all-requires c =
 pub share_of-requires : goal.share_of-requires
 share_of-requires c =
     let p = c.requires in
-    quota-is _ _ _ _ c.loop-i.i _ _ p.0 p.1 c.loop-i-test.true
+    quota-is _ _ _ _ c.loop-i.i _ _ p.0 p.1 (omega (arith, p.2, c.loop-i.invariant.size))
     c.gross_remaining-gross.ensures
     (loads-is _ _ _ _ p.0 (settled_is _ _ _ _ p.1).marks _ c.sum_marked-all.ensures)
 
 pub loop-i-preserved : goal.loop-i-preserved
 loop-i-preserved c =
     let p = c.requires in
-    sharing-next _ _ _ _ _ _ c.loop-i.i _ _ _ c.loop-i.invariant c.loop-i-test.true
+    sharing-next _ _ _ _ _ _ c.loop-i.i _ _ _ c.loop-i.invariant (omega (arith, p.2, c.loop-i.invariant.size))
     c.gross_remaining-gross.ensures
     (loads-is _ _ _ _ p.0 (settled_is _ _ _ _ p.1).marks _ c.sum_marked-all.ensures)
     c.share_of.ensures
@@ -33,9 +33,6 @@ loop-i-init c = search (rules, sharing-none)
 
 pub bounds-marks-i : goal.bounds-marks-i
 bounds-marks-i c = omega (arith, (settled_is _ _ _ _ c.requires.1).marks.size)
-
-pub shape_of-shares : goal.shape_of-shares
-shape_of-shares c = c.loop-i.invariant.size
 
 pub returns : goal.returns
 returns c = search (rules, sharing-all)
