@@ -31,5 +31,7 @@ pub(super) fn share_out_pending(state: &[u32], table: &mut [u64]) -> Answer
     );
     let mut weights = [0u64; MOST_HOLDERS];
     weights::weigh(state, &mut weights);
-    intertie_shares::share_out_each(interties, holders, &pools, &claims, &weights, table)
+    Answer::from(intertie_shares::share_out_each(
+        interties, holders, &pools, &claims, &weights, table,
+    ))
 }

@@ -7,40 +7,19 @@ ghost use Rattle.base.specs.Words.{at};
 ghost use Rattle.step_4b.specs.NewUse.{next_rank, new_use};
 ghost use Rattle.step_4b.specs.Workers.Used.{Zeros, Used};
 
-use base::numbers::{shorter, smaller};
 use base::vectors;
 
-// An intertie's number as a place in a list.
-fn place(intertie: u16) -> usize
-    ensures { result ≡ intertie }
-{
-    intertie as usize
-}
-
-// The number at place i, 0 past the end.
-fn read(numbers: &[u64], i: usize) -> u64
-    ensures { result ≡ at numbers.now i }
-{
-    if i < numbers.len() { numbers[i] } else { 0 }
-}
-
-// Stores a number at place i, nothing past the end.
-fn store(numbers: &mut [u64], i: usize, number: u64)
-    ensures { numbers.new ≡ set numbers.old i number }
-{
-    if i < numbers.len() {
-        numbers[i] = number;
-    }
-}
-
-// Covers a record's kW by the cover left on its intertie, which falls by that; hands back the rest.
+// Covers a record's kW by the cover left on its intertie, which falls by that; hands back the rest. (The place is tested
+// and indexed, since of `get_mut` the proof knows no number that the list ends with.)
 fn use_cover(kw: u64, intertie: usize, cover: &mut [u64]) -> u64
     ensures { let before = cover.old in let covered = min kw (at before intertie) in
         (result ≡ kw - covered) × (cover.new ≡ set before intertie (at before intertie - covered)) }
 {
-    let left = read(cover, intertie);
-    let covered = smaller(kw, left);
-    store(cover, intertie, left - covered);
+    if cover.len() <= intertie {
+        return kw;
+    }
+    let covered = kw.min(cover[intertie]);
+    cover[intertie] -= covered;
     kw - covered
 }
 
@@ -50,9 +29,10 @@ fn use_allowance(rest: u64, intertie: usize, allowance: u64, kept: &mut [u64]) -
     ensures { let before = kept.old in let stays = min rest allowance in
         (result ≡ allowance - stays) × (kept.new ≡ set before intertie (at before intertie + stays)) }
 {
-    let stays = smaller(rest, allowance);
-    let before = read(kept, intertie);
-    store(kept, intertie, before + stays);
+    let stays = rest.min(allowance);
+    if intertie < kept.len() {
+        kept[intertie] += stays;
+    }
     allowance - stays
 }
 
@@ -74,13 +54,11 @@ fn sixteen_zeros(numbers: &[u64], from: usize) -> bool
     requires { from + 16 ≤ length numbers.now }
     ensures { result ≡ true → Zeros numbers.now from 16 }
 {
-    let mut bits = 0;
-    let mut i = 0;
-    while i < 16 {
-        bits = bits | numbers[from + i];
-        i += 1;
-    }
-    bits == 0
+    let end = from + 16;
+    numbers[from..end]
+        .iter()
+        .fold(0, |bits, number| bits | *number)
+        == 0
 }
 
 // How many of the first ranks are to be gone through: past them, in sixteens, none has kW.
@@ -89,13 +67,7 @@ fn used_ranks(kw: &[u64], ranks: usize) -> usize
     ensures { Used kw.now ranks result }
 {
     let mut used = ranks;
-    loop {
-        if used < 16 {
-            break;
-        }
-        if !sixteen_zeros(kw, used - 16) {
-            break;
-        }
+    while 16 <= used && sixteen_zeros(kw, used - 16) {
         used -= 16;
     }
     used
@@ -115,13 +87,11 @@ pub fn keep_new_use(
         ≡ record { cover = cover.new; kept = kept.new; allowance = result } }
 {
     vectors::clear(kept);
-    let ranks = shorter(kw.len(), interties.len());
+    let ranks = kw.len().min(interties.len());
     let used = used_ranks(kw, ranks);
     let mut left = allowance;
-    let mut r = 0;
-    while r < used {
-        left = keep_rank(kw[r], place(interties[r]), left, cover, kept);
-        r += 1;
+    for r in 0..used {
+        left = keep_rank(kw[r], usize::from(interties[r]), left, cover, kept);
     }
     left
 }

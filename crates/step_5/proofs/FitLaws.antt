@@ -1,9 +1,8 @@
 -- What is known of lists and numbers once they are found to fit, and what they let the workers rely on.
-use Prim.Native.Nat.{ℕ, ◌*◌, ◌≤◌, ◌<◌}
+use Prim.Native.Nat.{ℕ, ◌≤◌, ◌<◌}
 use mathlib.Core.Path.{◌≡◌, sym, ap, ◌∙◌}
 use mathlib.Core.Bool.{true, false, ◌&&◌}
 use mathlib.Core.List.{List}
-use native.Mathlib.Nat.{le_trans, mul-le-mul}
 use native.Mathlib.Omega.{arith}
 use lib.ListN.{length}
 use lib.Dec.{leb, eqb}
@@ -74,13 +73,6 @@ accepted-numbers total held loads a =
     and_both (leb (at held i) 2880000000) (leb (at loads i) 100000000)
     (le-leb (at held i) 2880000000 (a.held-kw i l))
     (le-leb (at loads i) 100000000 (a.load-shares i l))))
-
--- the products fit 64 bits
-pub gross-load : (held load gross all : ℕ) → Factors held load gross all → gross * load ≤ 288000000000000000
-gross-load held load gross all f = le_trans (mul-le-mul f.gross-kw f.load-share) (omega arith)
-
-pub held-loads : (held load gross all : ℕ) → Factors held load gross all → held * all ≤ 9216000000000000000
-held-loads held load gross all f = le_trans (mul-le-mul f.held-kw f.all-loads) (omega arith)
 
 -- G is within T
 pub gross-within : (total : ℕ) (held x : List ℕ) (gross : ℕ) → gross ≡ gross_remaining total held x → gross ≤ total

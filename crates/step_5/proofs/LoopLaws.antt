@@ -41,11 +41,6 @@ module _ (mark : ℕ) (marks numbers : List ℕ) where
         most = omega (arith, s.most);
       }
 
-  pub summed-all : (sum i : ℕ) → Summed mark marks numbers sum i → length numbers ≤ i → sum ≡ together (length numbers) mark marks numbers
-  summed-all sum i s l =
-      let end : i ≡ length numbers = omega (arith, s.inside) in
-      s.total ∙ ap (λ k. together k mark marks numbers) end
-
 -- after i holders of a round from the marks x
 pub record Excluding (total : ℕ) (held loads x marks : List ℕ) (newly i : ℕ) : Type 0 where
   pub inside : i ≤ length held
@@ -77,11 +72,6 @@ module _ (total : ℕ) (held loads x : List ℕ) where
 
     mark-is : at marks i + out ≡ pick (excludes total held loads x i) excluded (at x i)
     mark-is = rw (later, out-excludes) (mark-next total held loads x i)
-
-    -- a mark stays a mark
-    pub mark-most : Marks (length held) x → at marks i + out ≤ 1
-    mark-most m =
-        rw mark-is (pick-by (λ k. k ≤ 1) (excludes total held loads x i) excluded (at x i) (λ e. le_refl 1) (λ f. m.each i t.before))
 
     pub excluding-next : Excluding total held loads x (set marks i (at marks i + out)) (newly + out) (i + 1)
     excluding-next =

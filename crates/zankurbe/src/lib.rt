@@ -44,7 +44,7 @@ pub extern "C" fn zankurbe_share_out(
     ensures { let shared = share_out pool claims.now weights.now output.old in
         (result ≡ shared.answer) × (output.new ≡ shared.output) }
 {
-    share_out::share_out(pool, claims, weights, output)
+    Answer::from(share_out::share_out(pool, claims, weights, output))
 }
 
 // The refusal of a sheet, 1 to 4, or 0.

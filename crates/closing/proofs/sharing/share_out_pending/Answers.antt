@@ -26,7 +26,7 @@ returns c =
     let o = refusal-none _ p.0.fit in
     pending-shared a.state.now o.1 p.0.stage-most _ _ _ _ _ a.table.now _ _ c.intertie_count-interties.ensures c.holder_count-holders.ensures
     c.read_row.ensures c.read_pairs.ensures (omega (arith, c.read_pairs.auto.table, length-zeros 1536)) (c.weigh.ensures ∙ weighed-is a.state.now (replicate 32 0) o.0 o.1.holders-most) p.1
-    c.share_out_each.ensures.0 c.share_out_each.ensures.1
+    (c.from.ensures ∙ c.share_out_each.ensures.0) c.share_out_each.ensures.1
 
 pub slice_bounds-share_out_each-end-3 : goal.slice_bounds-share_out_each-end-3
 slice_bounds-share_out_each-end-3 c =
