@@ -2,13 +2,13 @@
 // it in Steps 3 and 4 (docs/RULES.md, "Opening").
 #![tactic(auto)]
 
-ghost use Rattle.std.specs.Prelude.{◌≡◌, ◌&&◌, ◌-◌, ◌*◌, ◌/◌, length, leb, eqb};
+ghost use Rattle.std.specs.Prelude.{◌≡◌, ◌≤◌, true, ◌&&◌, ◌-◌, ◌*◌, ◌/◌, length, leb, eqb};
 ghost use Rattle.base.specs.Choice.{pick};
-ghost use Rattle.base.specs.Limits.{most_held_kw, most_load_share};
+ghost use Rattle.base.specs.Limits.{most_holders, most_held_kw, most_load_share};
 ghost use Rattle.step_5.specs.Round.{eligible, together, gross_remaining, newly_excluded, round_marks};
 ghost use Rattle.step_5.specs.Shares.{all_eligible, settled, step5_shares};
 ghost use Rattle.step_5.specs.Outcome.{fit_lengths, fit_numbers, step5};
-ghost use Rattle.step_5.specs.Workers.Fit.{Marks, Accepted, Addends, Factors, Quota};
+ghost use Rattle.step_5.specs.Workers.Fit.{Marks, Addends, Factors, Quota};
 
 use base::limits::{MOST_HELD_KW, MOST_HOLDERS, MOST_LOAD_SHARE};
 
@@ -79,35 +79,6 @@ fn newly_excluded(mark: u8, held: u64, load: u64, gross: u64, all: u64) -> u8
     u8::from((mark == ELIGIBLE) & (gross * load <= held * all))
 }
 
-// Makes one round: excludes its holders together and hands back how many they are.
-fn exclude_round(total: u64, held: &[u64], loads: &[u64], marks: &mut [u8]) -> u8
-    requires { Accepted total held.now loads.now × Marks (length held.now) marks.old }
-    ensures { let held = held.now in let loads = loads.now in let before = marks.old in
-        (result ≡ newly_excluded total held loads before) × (marks.new ≡ round_marks total held loads before) }
-{
-    let gross = gross_remaining(total, held, marks);
-    let all = sum_marked(ELIGIBLE, marks, loads);
-    let mut newly = 0;
-    for (i, mark) in marks.iter_mut().enumerate() {
-        let out = newly_excluded(*mark, held[i], loads[i], gross, all);
-        *mark += out;
-        newly += out;
-    }
-    newly
-}
-
-// Repeats until a round excludes none.
-fn settle(total: u64, held: &[u64], loads: &[u64], marks: &mut [u8])
-    requires { Accepted total held.now loads.now × (marks.old ≡ all_eligible held.now) }
-    ensures { marks.new ≡ settled total held.now loads.now }
-{
-    loop {
-        if exclude_round(total, held, loads, marks) == 0 {
-            break;
-        }
-    }
-}
-
 // A holder's share: if it is eligible G × load share / V, which is `all`, rounded down, minus held.
 fn share_of(mark: u8, held: u64, load: u64, gross: u64, all: u64) -> u64
     requires { Quota mark held load gross all }
@@ -120,27 +91,67 @@ fn share_of(mark: u8, held: u64, load: u64, gross: u64, all: u64) -> u64
     }
 }
 
-// Writes the shares of holders whose marks are settled.
-fn write_shares(total: u64, held: &[u64], loads: &[u64], marks: &[u8], shares: &mut [u64])
-    requires { Accepted total held.now loads.now × (marks.now ≡ settled total held.now loads.now)
-        × (length shares.old ≡ length held.now) }
-    ensures { shares.new ≡ step5_shares total held.now loads.now }
-{
-    let gross = gross_remaining(total, held, marks);
-    let all = sum_marked(ELIGIBLE, marks, loads);
-    for (i, share) in shares.iter_mut().enumerate() {
-        *share = share_of(marks[i], held[i], loads[i], gross, all);
-    }
+// What Step 5 is made over: T, and of at most 32 holders the kW that each holds and its load share, all in range.
+#[derive(Clone, Copy)]
+struct Holders<'a> {
+    total: u64,
+    held: &'a [u64],
+    loads: &'a [u64],
+    ghost few: { length held.now ≤ most_holders },
+    ghost paired: { length loads.now ≡ length held.now },
+    ghost ranged: { fit_numbers total held.now loads.now ≡ true },
 }
 
-// Settles who is excluded, from marks that are all eligible, and writes the shares.
-fn assign(total: u64, held: &[u64], loads: &[u64], marks: &mut [u8], shares: &mut [u64])
-    requires { Accepted total held.now loads.now × (marks.old ≡ all_eligible held.now)
-        × (length shares.old ≡ length held.now) }
-    ensures { shares.new ≡ step5_shares total held.now loads.now }
-{
-    settle(total, held, loads, marks);
-    write_shares(total, held, loads, marks, shares);
+impl Holders<'_> {
+    // Makes one round: excludes its holders together and hands back how many they are.
+    fn exclude_round(self, marks: &mut [u8]) -> u8
+        requires { Marks (length self.held.now) marks.old }
+        ensures { let total = self.entry.total in let held = self.entry.held.now in let loads = self.entry.loads.now in
+            (result ≡ newly_excluded total held loads marks.old) × (marks.new ≡ round_marks total held loads marks.old) }
+    {
+        let gross = gross_remaining(self.total, self.held, marks);
+        let all = sum_marked(ELIGIBLE, marks, self.loads);
+        let mut newly = 0;
+        for (i, mark) in marks.iter_mut().enumerate() {
+            let out = newly_excluded(*mark, self.held[i], self.loads[i], gross, all);
+            *mark += out;
+            newly += out;
+        }
+        newly
+    }
+
+    // Repeats until a round excludes none.
+    fn settle(self, marks: &mut [u8])
+        requires { marks.old ≡ all_eligible self.held.now }
+        ensures { marks.new ≡ settled self.entry.total self.entry.held.now self.entry.loads.now }
+    {
+        loop {
+            if self.exclude_round(marks) == 0 {
+                break;
+            }
+        }
+    }
+
+    // Writes the shares of holders whose marks are settled.
+    fn write_shares(self, marks: &[u8], shares: &mut [u64])
+        requires { (marks.now ≡ settled self.total self.held.now self.loads.now) × (length shares.old ≡ length self.held.now) }
+        ensures { shares.new ≡ step5_shares self.entry.total self.entry.held.now self.entry.loads.now }
+    {
+        let gross = gross_remaining(self.total, self.held, marks);
+        let all = sum_marked(ELIGIBLE, marks, self.loads);
+        for (i, share) in shares.iter_mut().enumerate() {
+            *share = share_of(marks[i], self.held[i], self.loads[i], gross, all);
+        }
+    }
+
+    // Settles who is excluded, from marks that are all eligible, and writes the shares.
+    fn assign(self, marks: &mut [u8], shares: &mut [u64])
+        requires { (marks.old ≡ all_eligible self.held.now) × (length shares.old ≡ length self.held.now) }
+        ensures { shares.new ≡ step5_shares self.entry.total self.entry.held.now self.entry.loads.now }
+    {
+        self.settle(marks);
+        self.write_shares(marks, shares);
+    }
 }
 
 // Writes the Step 5 share of each holder, who holds `held` kW by Steps 3 and 4, into the first places of
@@ -158,6 +169,11 @@ pub fn step_5_shares(total_kw: u64, held: &[u64], loads: &[u64], shares: &mut [u
         return false;
     }
     let mut marks = [ELIGIBLE; MOST_HOLDERS];
-    assign(total_kw, held, loads, &mut marks[..n], &mut shares[..n]);
+    let holders = Holders {
+        total: total_kw,
+        held,
+        loads,
+    };
+    holders.assign(&mut marks[..n], &mut shares[..n]);
     true
 }

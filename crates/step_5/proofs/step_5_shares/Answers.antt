@@ -1,11 +1,11 @@
 -- `step_5_shares` meets its contract: lists that don't fit, numbers that don't, and the shares.
 use Rattle.std.proofs.Common.{not}
-use Rattle.base.proofs.Prelude.{the, sym, ap, ◌∙◌, ◌++◌, length, drop}
+use Rattle.base.proofs.Prelude.{sym, ap, ◌∙◌, ◌++◌, length, drop}
 use borrow.Author.Tests.{not-true, not-false}
 use lib.Seq.{length-take-le}
 use Rattle.step_5.specs.Outcome.{Outcome}
 use Rattle.base.proofs.WordLaws.{take-replicate}
-use Rattle.step_5.proofs.FitLaws.{FitLengths, fit-lengths, accepted}
+use Rattle.step_5.proofs.FitLaws.{fit-lengths}
 use Rattle.step_5.proofs.OutcomeLaws.{outcome-lengths, outcome-numbers, outcome-shares, shares-front}
 use Rattle.step_5.proofs.step_5_shares.Goals as goal
 
@@ -23,12 +23,8 @@ returns-then-not-fit_numbers c =
 
 pub assign-requires : goal.assign-requires
 assign-requires c =
-    let fit = (the ((let a = c.args in
-    FitLengths (length a.held.now) (length a.loads.now) (length a.shares.now))) (fit-lengths _ _ _ (sym c.fit_lengths.ensures ∙ not-false _ (ap not c.if-not-fit_lengths.false)))) in (
-      accepted _ _ _ fit.few fit.paired (sym c.fit_numbers.ensures ∙ not-false _ (ap not c.if-not-fit_numbers.false)),
-      take-replicate _ 32 0 fit.few,
-      length-take-le _ _ fit.room,
-    )
+    let fit = fit-lengths _ _ _ (sym c.fit_lengths.ensures ∙ not-false _ (ap not c.if-not-fit_lengths.false)) in
+    (take-replicate _ 32 0 fit.few, length-take-le _ _ fit.room)
 
 pub returns : goal.returns
 returns c =
@@ -38,7 +34,6 @@ returns c =
     (sym c.fit_numbers.ensures ∙ not-false _ (ap not c.if-not-fit_numbers.false)) in (
       sym (ap (λ (r : Outcome). r.fit) o),
       ap (λ l. l ++ drop (length a.held.now) a.shares.now) c.assign.ensures
-          ∙ sym (shares-front a.total_kw a.held.now a.loads.now a.shares.now (the ((let a = c.args in
-          FitLengths (length a.held.now) (length a.loads.now) (length a.shares.now))) (fit-lengths _ _ _ (sym c.fit_lengths.ensures ∙ not-false _ (ap not c.if-not-fit_lengths.false)))).room)
+          ∙ sym (shares-front a.total_kw a.held.now a.loads.now a.shares.now (fit-lengths _ _ _ (sym c.fit_lengths.ensures ∙ not-false _ (ap not c.if-not-fit_lengths.false))).room)
           ∙ sym (ap (λ (r : Outcome). r.output) o),
     )

@@ -1,6 +1,6 @@
 use Rattle.base.proofs.Prelude.{rules}
 use Rattle.step_5.proofs.LoopLaws.{settling-first, settling-next, settling-less, settling-last}
-use Rattle.step_5.proofs.settle.Goals as goal
+use Rattle.step_5.proofs.Holders.settle.Goals as goal
 
 pub loop-smaller : goal.loop-smaller
 loop-smaller c =
@@ -11,7 +11,7 @@ loop-preserved c =
     settling-next _ _ _ _ _ _ c.loop.invariant c.exclude_round.ensures
 
 pub loop-init : goal.loop-init
-loop-init c = rw c.requires.1 (settling-first _ _ _)
+loop-init c = rw c.requires (settling-first _ _ _)
 
 pub returns : goal.returns
 returns c = search (rules, settling-last)
