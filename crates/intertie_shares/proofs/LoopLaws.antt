@@ -75,17 +75,17 @@ settled pool claims weights output empty n m =
 -- claims that are gathered and the first weights are what the definition shares out over, and its output is scattered
 pub shared-on : (i H : ℕ) (pools claims weights claimed before output after-it grants after : List ℕ) (r : Answer) (g : Granted) → H ≤ length weights →
     claimed ≡ column claims H i → length before ≡ H → length output ≡ H →
-    (r ≡ (share_out (at pools i) claimed (take (length claimed) weights) before).answer) × (output ≡ (share_out (at pools i) claimed (take (length claimed) weights) before).output) →
+    (r ≡ (share_out (at pools i) claimed (take H weights) before).answer) × (output ≡ (share_out (at pools i) claimed (take H weights) before).output) →
     (g.kw ≡ r.kw) × (g.passes ≡ r.passes) × (after-it ≡ pick (eqb r.refusal 0) output (tab (length output) (λ h. 0))) →
     after ≡ fill_column i (length after-it) (at after-it) grants → SharedOn i H pools claims weights grants g after
 unfolding among_holders
 shared-on i H pools claims weights claimed before output after-it grants after r g enough c room size o f a =
     let n : length claimed ≡ H = ap (λ l. length l) c ∙ length-tab H (λ h. at_pair claims h i) in
     let empty : List ℕ = tab H (λ h. 0) in
-    let made : Outcome = share_out (at pools i) claimed (take (length claimed) weights) before in
-    let s = settled (at pools i) claimed (take (length claimed) weights) before empty (room ∙ sym n) (length-tab H (λ h. 0) ∙ sym n) in
-    let same : share_out (at pools i) claimed (take (length claimed) weights) empty ≡ share_out_on H (at pools) (at_pair claims) (at weights) i =
-    rw (n, take-tab H weights enough, c) in
+    let made : Outcome = share_out (at pools i) claimed (take H weights) before in
+    let s = settled (at pools i) claimed (take H weights) before empty (room ∙ sym n) (length-tab H (λ h. 0) ∙ sym n) in
+    let same : share_out (at pools i) claimed (take H weights) empty ≡ share_out_on H (at pools) (at_pair claims) (at weights) i =
+    rw (take-tab H weights enough, c) in
     let cleared : after-it ≡ pick (eqb r.refusal 0) output empty = rw size at f.2 in
     let answer : r ≡ (share_out_on H (at pools) (at_pair claims) (at weights) i).answer = o.0 ∙ s.0 ∙ ap (λ (x : Outcome). x.answer) same in
     let out : after-it ≡ (share_out_on H (at pools) (at_pair claims) (at weights) i).output =

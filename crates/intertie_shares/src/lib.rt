@@ -2,16 +2,16 @@
 // (docs/RULES.md, "Opening" and "Calls of the year").
 #![tactic(auto)]
 
-ghost use Rattle.std.specs.Prelude.{◌≡◌, ◌+◌, ◌≤◌, min, leb, eqb, length};
+ghost use Rattle.std.specs.Prelude.{◌≡◌, ◌+◌, ◌≤◌, ◌<◌, min, leb, eqb, length};
 ghost use Rattle.base.specs.Answers.{granted};
 ghost use Rattle.base.specs.Choice.{pick};
-ghost use Rattle.base.specs.Limits.{most_kw, most_load_share};
+ghost use Rattle.base.specs.Limits.{most_kw, most_load_share, most_interties, most_holders, most_pairs};
 ghost use Rattle.base.specs.Refused.{answer_of};
 ghost use Rattle.base.specs.Sums.{sum_to, all_to};
 ghost use Rattle.base.specs.Words.{at, tab};
 ghost use Rattle.intertie_shares.specs.Pairs.{at_pair, column, fill_column};
 ghost use Rattle.intertie_shares.specs.Rule.{unfit_sizes, share_out_each};
-ghost use Rattle.intertie_shares.specs.Workers.Fit.{Sized, InTable, SharedOn};
+ghost use Rattle.intertie_shares.specs.Workers.Fit.{InTable, SharedOn};
 
 use base::limits::{MOST_HOLDERS, MOST_INTERTIES, MOST_KW, MOST_LOAD_SHARE, MOST_PAIRS};
 use base::refusals::Refusal;
@@ -97,89 +97,92 @@ fn grant_claims(claims: &[u64], intertie: usize, holders: usize, grants: &mut [u
     }
 }
 
-// Shares out on one intertie by the share-out; claimed and output are room for what its holders claim and get.
-fn share_out_gathered(
-    intertie: usize,
-    pools: &[u64],
-    claims: &[u64],
-    weights: &[u64],
-    claimed: &mut [u64],
-    output: &mut [u64],
-    grants: &mut [u64],
-) -> Granted
-    requires { Sized (intertie + 1) (length claimed.old) pools.now claims.now weights.now grants.old
-        × (length output.old ≡ length claimed.old) }
-    ensures { SharedOn intertie (length claimed.old) pools.now claims.now
-        weights.now grants.old result grants.new }
-{
-    gather(claims, intertie, claimed);
-    let holders = claimed.len();
-    let made = share_out::share_out(pools[intertie], claimed, &weights[..holders], output);
-    let granted = settle(made, output);
-    scatter(output, intertie, grants);
-    granted
-}
-
-// The same. Claims that are together within the pool are met without gathering them, where weights and pool are
-// such as the share-out takes.
-fn share_out_on(
-    intertie: usize,
-    weighable: bool,
-    pools: &[u64],
-    claims: &[u64],
-    weights: &[u64],
-    claimed: &mut [u64],
-    output: &mut [u64],
-    grants: &mut [u64],
-) -> Granted
-    requires { Sized (intertie + 1) (length claimed.old) pools.now claims.now weights.now grants.old
-        × (length output.old ≡ length claimed.old)
-        × (weighable ≡ all_to (length claimed.old) (λ h. leb (at weights.now h) most_load_share)) }
-    ensures { SharedOn intertie (length claimed.old) pools.now claims.now
-        weights.now grants.old result grants.new }
-{
-    let pool = pools[intertie];
-    if weighable & (pool <= MOST_KW) {
-        let total = claimed_on(pool, claims, intertie, claimed.len());
-        if total <= pool {
-            grant_claims(claims, intertie, claimed.len(), grants);
-            return Granted {
-                kw: total,
-                passes: 0,
-            };
-        }
-    }
-    share_out_gathered(intertie, pools, claims, weights, claimed, output, grants)
-}
-
-// Shares out on each intertie in turn; hands back kW and passes over all.
-fn on_each(
+// What is shared out: a pool for each intertie, a claim for each pair and a weight for each holder, how many there are of
+// both, and whether the share-out takes every weight.
+#[derive(Clone, Copy)]
+struct Claims<'a> {
     interties: usize,
-    pools: &[u64],
-    claims: &[u64],
-    weights: &[u64],
-    claimed: &mut [u64],
-    output: &mut [u64],
-    grants: &mut [u64],
-) -> Granted
-    requires { Sized interties (length claimed.old) pools.now claims.now weights.now grants.old
-        × (length output.old ≡ length claimed.old) }
-    ensures { let holders = length claimed.old in
-        let made = share_out_each interties holders pools.now claims.now weights.now grants.old in
-        (granted result.kw result.passes ≡ made.answer) × (grants.new ≡ made.output) }
-{
-    let holders = claimed.len();
-    let weighable = vectors::all_within(&weights[..holders], MOST_LOAD_SHARE);
-    let mut kw = 0;
-    let mut passes = 0;
-    for i in 0..interties {
-        let granted = share_out_on(
-            i, weighable, pools, claims, weights, claimed, output, grants,
-        );
-        kw += granted.kw;
-        passes += granted.passes;
+    holders: usize,
+    pools: &'a [u64],
+    claims: &'a [u64],
+    weights: &'a [u64],
+    weighable: bool,
+    ghost few_interties: { interties ≤ most_interties },
+    ghost few_holders: { holders ≤ most_holders },
+    ghost pooled: { interties ≤ length pools.now },
+    ghost claimed: { most_pairs ≤ length claims.now },
+    ghost weighed: { holders ≤ length weights.now },
+    ghost light: { weighable ≡ all_to holders (λ h. leb (at weights.now h) most_load_share) },
+}
+
+impl Claims<'_> {
+    // Shares out on one intertie by the share-out; claimed and output are room for what its holders claim and get.
+    fn share_out_gathered(
+        self,
+        intertie: usize,
+        claimed: &mut [u64; MOST_HOLDERS],
+        output: &mut [u64; MOST_HOLDERS],
+        grants: &mut [u64],
+    ) -> Granted
+        requires { (intertie < self.interties) × (most_pairs ≤ length grants.old) }
+        ensures { SharedOn intertie self.entry.holders self.entry.pools.now self.entry.claims.now
+            self.entry.weights.now grants.old result grants.new }
+    {
+        let claimed = &mut claimed[..self.holders];
+        let output = &mut output[..self.holders];
+        gather(self.claims, intertie, claimed);
+        let weights = &self.weights[..self.holders];
+        let made = share_out::share_out(self.pools[intertie], claimed, weights, output);
+        let granted = settle(made, output);
+        scatter(output, intertie, grants);
+        granted
     }
-    Granted { kw, passes }
+
+    // The same. Claims that are together within the pool are met without gathering them, where weights and pool are
+    // such as the share-out takes.
+    fn share_out_on(
+        self,
+        intertie: usize,
+        claimed: &mut [u64; MOST_HOLDERS],
+        output: &mut [u64; MOST_HOLDERS],
+        grants: &mut [u64],
+    ) -> Granted
+        requires { (intertie < self.interties) × (most_pairs ≤ length grants.old) }
+        ensures { SharedOn intertie self.entry.holders self.entry.pools.now self.entry.claims.now
+            self.entry.weights.now grants.old result grants.new }
+    {
+        let pool = self.pools[intertie];
+        if self.weighable & (pool <= MOST_KW) {
+            let total = claimed_on(pool, self.claims, intertie, self.holders);
+            if total <= pool {
+                grant_claims(self.claims, intertie, self.holders, grants);
+                return Granted {
+                    kw: total,
+                    passes: 0,
+                };
+            }
+        }
+        self.share_out_gathered(intertie, claimed, output, grants)
+    }
+
+    // Shares out on each intertie in turn; hands back kW and passes over all.
+    fn on_each(self, grants: &mut [u64]) -> Granted
+        requires { most_pairs ≤ length grants.old }
+        ensures { let given = self.entry in
+            let made = share_out_each given.interties given.holders given.pools.now given.claims.now given.weights.now grants.old in
+            (granted result.kw result.passes ≡ made.answer) × (grants.new ≡ made.output) }
+    {
+        let mut claimed = [0u64; MOST_HOLDERS];
+        let mut output = [0u64; MOST_HOLDERS];
+        let mut kw = 0;
+        let mut passes = 0;
+        for i in 0..self.interties {
+            let granted = self.share_out_on(i, &mut claimed, &mut output, grants);
+            kw += granted.kw;
+            passes += granted.passes;
+        }
+        Granted { kw, passes }
+    }
 }
 
 // Shares each intertie's pool out over the holders' claims there, by weight: writes a grant for each
@@ -205,15 +208,14 @@ pub fn share_out_each(
     ) {
         return Err(Refusal::Room);
     }
-    let mut claimed = [0u64; MOST_HOLDERS];
-    let mut output = [0u64; MOST_HOLDERS];
-    Ok(on_each(
+    let weighable = vectors::all_within(&weights[..holders], MOST_LOAD_SHARE);
+    let claims = Claims {
         interties,
+        holders,
         pools,
         claims,
         weights,
-        &mut claimed[..holders],
-        &mut output[..holders],
-        grants,
-    ))
+        weighable,
+    };
+    Ok(claims.on_each(grants))
 }

@@ -1,8 +1,0 @@
--- `on_each` meets its contract: after i turns the first i interties are shared out.
-use Rattle.base.proofs.Prelude.{length}
-use Rattle.intertie_shares.proofs.LoopLaws.{Over}
-use Rattle.intertie_shares.proofs.on_each.Given as goal
-
-abbrev pub invariant-loop-i : goal.invariant-loop-i
-invariant-loop-i l =
-    Over l.interties (length l.initial.claimed) l.pools l.claims l.weights l.initial.grants l.grants l.kw l.passes l.i
