@@ -9,7 +9,7 @@ ghost use Rattle.steps_2_to_4.specs.Workers.Reserve.{Reserving, Reserved};
 use super::{claims, vectors};
 use base::limits::MOST_PAIRS;
 
-// Step 4a: shares out what Step 3 left on each intertie over the Pre-RA claims.
+// Step 4a: shares out what Step 3 left on each intertie over the Pre-RA claims. (Sizes that are asked for here are not refused.)
 pub(super) fn grant_pre_ra(kw: &[u64], pools: &[u64], loads: &[u64], granted: &mut [u64])
     requires { (length pools.now ≤ most_interties) × (length loads.now ≤ most_holders)
         × (length kw.now ≡ slots) × (length granted.old ≡ most_pairs) }
@@ -19,7 +19,14 @@ pub(super) fn grant_pre_ra(kw: &[u64], pools: &[u64], loads: &[u64], granted: &m
 {
     let mut claimed = [0u64; MOST_PAIRS];
     claims::pre_ra_claims(kw, loads.len(), &mut claimed);
-    intertie_shares::share_out_each(pools.len(), loads.len(), pools, &claimed, loads, granted);
+    let _ = intertie_shares::share_out_each(
+        pools.len(),
+        loads.len(),
+        pools,
+        &claimed,
+        loads,
+        granted,
+    );
 }
 
 // Step 4b: shares out what Step 4a left on each intertie over the New Use kW that stay.
@@ -42,7 +49,14 @@ pub(super) fn grant_new_use(
 {
     let mut claimed = [0u64; MOST_PAIRS];
     claims::new_use_claims(kw, ties, pools.len(), quantities, pre_ra, &mut claimed);
-    intertie_shares::share_out_each(pools.len(), loads.len(), pools, &claimed, loads, granted);
+    let _ = intertie_shares::share_out_each(
+        pools.len(),
+        loads.len(),
+        pools,
+        &claimed,
+        loads,
+        granted,
+    );
 }
 
 // Steps 3 to 4b: from what is available on each intertie, P and N of every pair and what stays
