@@ -7,3 +7,4 @@ pub mod TestLaws
 pub mod PlaceLaws
 pub mod ListLaws
 pub mod Prelude
+pub mod RefusedLaws

@@ -5,9 +5,11 @@ use mathlib.Core.Bool.{Bool, true, false, ◌&&◌, not}
 use mathlib.Core.Logic.{⊎_elim}
 use mathlib.Core.List.{List}
 use native.Mathlib.Omega.{arith}
-use native.Mathlib.Nat.{le_trans, mul-le-mul_right, add_assoc}
-use lib.Dec.{leb, eqb}
-use lib.ListN.{length, get_or-eq_default}
+use native.Mathlib.Nat.{le_trans, mul-le-mul_right, add_assoc, suc-ne-zero, not-suc-le-zero}
+use lib.Dec.{leb, ltb, eqb}
+use lib.ListN.{length, take, drop, get_or-eq_default}
+use lib.Seq.{length-take-le}
+use Rattle.std.proofs.lemmas.List.{get_or-take, get_or-drop, length-drop}
 use Rattle.base.specs.Sums.{sum_to, all_to}
 use Rattle.base.specs.Words.{at}
 use Rattle.base.proofs.WordLaws.{length-tab, at-tab}
@@ -16,11 +18,17 @@ use Rattle.sheet_records.specs.Sheet.{interties, holders, count, kw_at, sum_over
 use Rattle.sheet_records.specs.Refusal.{within, bad_length, bad_sizes, records_stand, one_limit_each, one_load_share_each, no_rank_twice, rules_hold, limits_hold, sheet_refusal}
 use Rattle.sheet_reading.specs.Tables.{slots, slot_of, limit_slot, outside_slot, load_share_slot, existing_slot, new_use_slot, table, count_table, kw_table, ReadSheet}
 use Rattle.sheet_reading.specs.Workers.Adding.{Filled}
-use Rattle.sheet_reading.specs.Workers.Deciding.{table_rules_hold, table_existing_on, table_limit_holds, Modest}
+use Rattle.sheet_reading.specs.declared.tables.Tables.{Tables}
+use Rattle.base.specs.declared.refusals.Refusal.{Refusal}
+use Rattle.base.specs.Refused.{number_of}
+use Rattle.base.specs.Choice.{pick}
+use Rattle.base.proofs.RefusedLaws.{numbered}
+use Rattle.std.proofs.Common.{◌||◌}
+use Rattle.sheet_reading.specs.Workers.Deciding.{sizes_refusal, table_rules_hold, table_existing_on, table_limit_holds, Modest}
 use Rattle.base.proofs.ChoiceLaws.{le-or-lt}
 use Rattle.base.proofs.SumLaws.{all_to-rows}
 use Rattle.sheet_reading.proofs.TableLaws.{at-limit, at-load-share, at-new-use, limit-at, outside-at, existing-at}
-use Rattle.sheet_records.proofs.RefusalLaws.{sized}
+use Rattle.sheet_records.proofs.RefusalLaws.{Sized, sized, long-enough, whole}
 use Rattle.sheet_records.proofs.OverLaws.{over-all}
 use Rattle.sheet_records.proofs.ReadingLaws.{word_below}
 
@@ -36,6 +44,29 @@ ranks-row counts H =
     ∙ all_to-same H (λ h. all_to 256 (λ r. leb (at counts (4288 + (256 * h + r))) 1)) (λ h. all_to 256 (λ r. leb (at counts (new_use_slot h r)) 1))
     (λ h _. all_to-same 256 (λ r. leb (at counts (4288 + (256 * h + r))) 1) (λ r. leb (at counts (new_use_slot h r)) 1)
     (λ r _. ap (λ (j : ℕ). leb (at counts j) 1) (sym (add_assoc 4288 (256 * h) r))))
+
+-- a test of each number of a part
+part-all : (p : ℕ → Bool) (l : List ℕ) (from n m : ℕ) → n ≡ m → from + m ≤ length l
+    → all_to (length (take n (drop from l))) (λ i. p (at (take n (drop from l)) i)) ≡ all_to m (λ i. p (at l (from + i)))
+part-all p l from n m e room =
+    let size : length (take n (drop from l)) ≡ m = length-take-le n (drop from l) (omega (arith, length-drop from l)) ∙ e in
+    ap (λ k. all_to k (λ i. p (at (take n (drop from l)) i))) size
+    ∙ all_to-same m (λ i. p (at (take n (drop from l)) i)) (λ i. p (at l (from + i)))
+    (λ i h. ap p (get_or-take n (drop from l) i 0 (omega arith) ∙ get_or-drop from l i 0))
+
+-- the tests of parts of a table of counts
+module _ (counts : List ℕ) (H I : ℕ) (few : I ≤ 64) (low : H ≤ 32) (full : length counts ≡ slots) where
+  pub rules-by-parts : (stand limits shares ranks : Bool) (l r : ℕ)
+      → limits ≡ all_to (length (take I counts)) (λ i. eqb (at (take I counts) i) 1)
+      → shares ≡ all_to (length (take l (drop 128 counts))) (λ i. leb (at (take l (drop 128 counts)) i) 1)
+      → ranks ≡ all_to (length (take r (drop 4288 counts))) (λ i. leb (at (take r (drop 4288 counts)) i) 1)
+      → l ≡ H → r ≡ 256 * H → stand && limits && shares && ranks ≡ table_rules_hold stand counts H I
+  rules-by-parts stand limits shares ranks l r a b c el er =
+      let first = a ∙ part-all (λ x. eqb x 1) counts 0 I I refl (omega arith)
+      ∙ all_to-same I (λ i. eqb (at counts (0 + i)) 1) (λ i. eqb (at counts i) 1) (λ i _. let same : 0 + i ≡ i = omega arith in ap (λ (j : ℕ). eqb (at counts j) 1) same) in
+      let second = b ∙ part-all (λ x. leb x 1) counts 128 l H el (omega arith) in
+      let third = c ∙ part-all (λ x. leb x 1) counts 4288 r (256 * H) er (omega arith) ∙ ranks-row counts H in
+      rw (first, second, third) refl
 
 -- the counts and sums of the tables are those of the rules
 module _ (s : List ℕ) (few : interties s ≤ 48) (small : holders s ≤ 32) where
@@ -80,62 +111,103 @@ modest s few bytes j =
     (mul-le-mul_right 4_294_967_295 few)))
     (le-or-lt slots j)
 
--- refusals 3 and 4 from what the code has read: the sizes, the tables, and the tests on them
-module _ (s : List ℕ) (whole : bad_length s ≡ false) (sizes : bad_sizes s ≡ false) (H I : ℕ) (eh : H ≡ holders s) (ei : I ≡ interties s) where
-  pub rules-decided : (stand b : Bool) (counts : List ℕ) → stand ≡ records_stand s → counts ≡ count_table s → b ≡ table_rules_hold stand counts H I → b ≡ rules_hold s
-  rules-decided stand b counts es ec eb =
-      let z = sized s sizes in
-      eb ∙ rw (es, ec, eh, ei) (rules-counted s z.few-interties z.few-holders)
-
-  pub limits-decided : (b : Bool) (kw : List ℕ) → kw ≡ kw_table s → b ≡ all_to I (table_limit_holds kw H) → b ≡ limits_hold s
-  limits-decided b kw ek eb =
-      let z = sized s sizes in
-      eb ∙ rw (ek, eh, ei) (limits-summed s z.few-interties z.few-holders)
-
-module _ (s : List ℕ) (whole : bad_length s ≡ false) (sizes : bad_sizes s ≡ false) where
-  pub refused-3 : (a : Bool) → a ≡ rules_hold s → a ≡ false → 3 ≡ sheet_refusal s
-  unfolding sheet_refusal
-  refused-3 a e f = simp (whole, sizes, ← e, f)
-
-  pub refused-4 : (a b : Bool) → a ≡ rules_hold s → a ≡ true → b ≡ limits_hold s → b ≡ false → 4 ≡ sheet_refusal s
-  unfolding sheet_refusal
-  refused-4 a b e t g f = simp (whole, sizes, ← e, t, ← g, f)
-
-  pub stands : (a b : Bool) → a ≡ rules_hold s → a ≡ true → b ≡ limits_hold s → b ≡ true → 0 ≡ sheet_refusal s
-  unfolding sheet_refusal
-  stands a b e t g u = simp (whole, sizes, ← e, t, ← g, u)
-
 pub sizes-decided : (s : List ℕ) (I H : ℕ) (b : Bool) → I ≡ interties s → H ≡ holders s → b ≡ not (within 1 48 I && within 1 32 H) → b ≡ bad_sizes s
 unfolding bad_sizes
 sizes-decided s I H b ei eh eb = rw (← ei, ← eh) eb
 
--- the three ways that a reading ends
-pub read-sheet-1 : (s counts kw ties : List ℕ) (a : Bool) → a ≡ bad_length s → a ≡ true → ReadSheet s counts kw ties 1 counts kw ties
-unfolding sheet_refusal
-read-sheet-1 s counts kw ties a e t =
+-- refusals 1 and 2 as they are decided
+module _ (s : List ℕ) where
+  pub sizes-1 : (a : Bool) → a ≡ bad_length s → a ≡ true → 1 ≡ sizes_refusal s
+  unfolding sizes_refusal
+  sizes-1 a e t = simp (← e, t)
+
+  module _ (a b : Bool) (e : a ≡ bad_length s) (f : a ≡ false) (I H : ℕ) (ei : I ≡ pick (ltb (length s) 12) 0 (interties s)) (eh : H ≡ pick (ltb (length s) 12) 0 (holders s))
+      (eb : b ≡ not (within 1 48 I && within 1 32 H)) where
+    sizes-bad : b ≡ bad_sizes s
+    sizes-bad = let whole = sym e ∙ f in sizes-decided s I H b (long-enough s I _ whole ei) (long-enough s H _ whole eh) eb
+
+    pub sizes-2 : b ≡ true → 2 ≡ sizes_refusal s
+    unfolding sizes_refusal
+    sizes-2 t = simp (← e, f, ← sizes-bad, t)
+
+    pub sizes-0 : b ≡ false → 0 ≡ sizes_refusal s
+    unfolding sizes_refusal
+    sizes-0 t = simp (← e, f, ← sizes-bad, t)
+
+  -- what they say
+  pub sizes-pass : sizes_refusal s ≡ 0 → (bad_length s ≡ false) × (bad_sizes s ≡ false)
+  unfolding sizes_refusal
+  sizes-pass = go (bad_length s) (bad_sizes s)
+    where
+      go : (a b : Bool) → ◌≡◌ {A = ℕ} (pick a 1 (pick b 2 0)) 0 → (a ≡ false) × (b ≡ false)
+      go true b e = absurd (suc-ne-zero 0 e)
+      go false true e = absurd (suc-ne-zero 1 e)
+      go false false e = (refl, refl)
+
+  pub sizes-refused : (r : Refusal) (n : ℕ) → n ≡ sizes_refusal s → n ≡ number_of r → (n ≡ sheet_refusal s) × (bad_length s || bad_sizes s ≡ true)
+  unfolding sizes_refusal sheet_refusal
+  sizes-refused r n e f = go (bad_length s) (bad_sizes s) _ e (rw f (numbered r))
+    where
+      go : (a b : Bool) (rest : ℕ) → n ≡ pick a 1 (pick b 2 0) → 1 ≤ n → (n ≡ pick a 1 (pick b 2 rest)) × (a || b ≡ true)
+      go true b rest p some = (p, refl)
+      go false true rest p some = (p, refl)
+      go false false rest p some = absurd (not-suc-le-zero (rw p at some))
+
+-- refusals 3 and 4 from what the code has read: the sizes, the tables, and the tests on them
+module _ (s : List ℕ) (passed : sizes_refusal s ≡ 0) (H I : ℕ) (eh : H ≡ pick (ltb (length s) 12) 0 (holders s)) (ei : I ≡ pick (ltb (length s) 12) 0 (interties s)) where
+  sizes : Sized s
+  sizes = sized s (sizes-pass s passed).1
+
+  the-holders : H ≡ holders s
+  the-holders = long-enough s H _ (sizes-pass s passed).0 eh
+
+  the-interties : I ≡ interties s
+  the-interties = long-enough s I _ (sizes-pass s passed).0 ei
+
+  -- what the tests ask
+  pub modest-table : ((i : ℕ) → at s i < 256) → (kw : List ℕ) → kw ≡ kw_table s → Modest kw
+  modest-table bytes kw e = rw e (modest s (whole s (count s) (sizes-pass s passed).0 refl).few bytes)
+
+  pub few-sizes : (H ≤ 32) × (I ≤ 64)
+  few-sizes = (omega (arith, the-holders, sizes), omega (arith, the-interties, sizes))
+
+  module _ (stand b : Bool) (counts : List ℕ) (es : stand ≡ records_stand s) (ec : counts ≡ count_table s) (eb : b ≡ table_rules_hold stand counts H I) where
+    rules-decided : b ≡ rules_hold s
+    rules-decided = eb ∙ rw (es, ec, the-holders, the-interties) (rules-counted s sizes.few-interties sizes.few-holders)
+
+    pub refused-3 : b ≡ false → 3 ≡ sheet_refusal s
+    unfolding sheet_refusal
+    refused-3 f = let p = sizes-pass s passed in simp (p.0, p.1, ← rules-decided, f)
+
+    module _ (t : b ≡ true) (d : Bool) (kw : List ℕ) (ek : kw ≡ kw_table s) (ed : d ≡ all_to I (table_limit_holds kw H)) where
+      limits-decided : d ≡ limits_hold s
+      limits-decided = ed ∙ rw (ek, the-holders, the-interties) (limits-summed s sizes.few-interties sizes.few-holders)
+
+      pub refused-4 : d ≡ false → 4 ≡ sheet_refusal s
+      unfolding sheet_refusal
+      refused-4 f = let p = sizes-pass s passed in simp (p.0, p.1, ← rules-decided, t, ← limits-decided, f)
+
+      pub stands : d ≡ true → 0 ≡ sheet_refusal s
+      unfolding sheet_refusal
+      stands f = let p = sizes-pass s passed in simp (p.0, p.1, ← rules-decided, t, ← limits-decided, f)
+
+-- the two ways that a reading ends
+pub read-refused : (s : List ℕ) (tables : Tables) (r : Refusal) (n : ℕ) → n ≡ sizes_refusal s → n ≡ number_of r → ReadSheet s tables (number_of r) tables
+read-refused s tables r n e f =
+    let p = sizes-refused s r n e f in
     record {
-      answer = simp (← e, t);
-      counted = simp (← e, t);
-      summed = simp (← e, t);
-      placed = simp (← e, t);
+      answer = sym f ∙ p.0;
+      counted = simp p.1;
+      summed = simp p.1;
+      placed = simp p.1;
     }
 
-pub read-sheet-2 : (s counts kw ties : List ℕ) (a b : Bool) → a ≡ bad_length s → a ≡ false → b ≡ bad_sizes s → b ≡ true → ReadSheet s counts kw ties 2 counts kw ties
-unfolding sheet_refusal
-read-sheet-2 s counts kw ties a b e f g t =
-    record {
-      answer = simp (← e, f, ← g, t);
-      counted = simp (← e, f, ← g, t);
-      summed = simp (← e, f, ← g, t);
-      placed = simp (← e, f, ← g, t);
-    }
-
-pub read-sheet-filled : (s counts₀ kw₀ ties₀ counts kw ties : List ℕ) (r : ℕ) → bad_length s ≡ false → bad_sizes s ≡ false → r ≡ sheet_refusal s → Filled s counts kw ties
-    → ReadSheet s counts₀ kw₀ ties₀ r counts kw ties
-read-sheet-filled s counts₀ kw₀ ties₀ counts kw ties r e f a t =
+pub read-filled : (s : List ℕ) (before now : Tables) (r : ℕ) → sizes_refusal s ≡ 0 → r ≡ sheet_refusal s → Filled s now → ReadSheet s before r now
+read-filled s before now r e a t =
+    let p = sizes-pass s e in
     record {
       answer = a;
-      counted = simp (e, f) t.counted;
-      summed = simp (e, f) t.summed;
-      placed = simp (e, f) t.placed;
+      counted = simp (p.0, p.1) t.counted;
+      summed = simp (p.0, p.1) t.summed;
+      placed = simp (p.0, p.1) t.placed;
     }

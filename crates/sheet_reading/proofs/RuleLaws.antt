@@ -1,7 +1,7 @@
 -- The rule of a record by its kind, over the fields as they were taken out of the key.
 use Prim.Native.Nat.{ℕ, ◌≤◌, ◌<◌, zero-le}
 use mathlib.Core.Path.{◌≡◌, refl, sym, ◌∙◌}
-use mathlib.Core.Bool.{Bool, true, false, ◌&&◌, ◌||◌, not, and-false, false≢true}
+use mathlib.Core.Bool.{Bool, true, false, ◌&&◌, ◌||◌, not, and-false, and_assoc, false≢true}
 use mathlib.Core.Logic.{⊎_elim}
 use native.Mathlib.Omega.{arith}
 use borrow.Author.Tests.{eqb-true, eqb-false, le-leb, lt-leb, ne_eqb, leb-true}
@@ -10,7 +10,8 @@ use Rattle.base.specs.Choice.{pick}
 use Rattle.base.proofs.ChoiceLaws.{and_left, and_right, pick-by}
 use Rattle.sheet_keys.specs.Key.{kind_of, holder_of, intertie_of, rank_of, years_of}
 use Rattle.sheet_records.specs.Refusal.{record_stands, within}
-use Rattle.sheet_reading.specs.Workers.Kinds.{names_holder, names_intertie, names_rank, names_years, least_of, most_of}
+use Rattle.sheet_reading.specs.Workers.Kinds.{names_holder, names_intertie, names_rank, names_years, least_of, most_of, rule_of}
+use Rattle.sheet_reading.specs.declared.rules.Rule.{Rule}
 use Rattle.base.proofs.ChoiceLaws.{le-or-lt}
 
 -- one of two tests, as a third says
@@ -26,17 +27,6 @@ none_within kw = go (leb 1 kw) refl
     go : (b : Bool) → leb 1 kw ≡ b → (b && leb kw 0) ≡ false
     go true t = let l = leb-true 1 kw t in lt-leb kw 0 (omega arith)
     go false t = refl
-
--- what a kind says, where its tests don't show it at once
-module _ (k : ℕ) where
-  pub no-intertie-0 : k < 1 → false ≡ names_intertie k
-  no-intertie-0 l = let e : k ≡ 0 = omega arith in rw e refl
-
-  pub least-load-share : k ≡ 3 → 0 ≡ least_of k
-  least-load-share e = rw e refl
-
-  pub most-outside : 1 ≤ k → k ≤ 2 → 20_000_000 ≡ most_of k
-  most-outside l m = simp (ne_eqb k 3 (λ e. omega arith), le-leb 1 k l, le-leb k 6 (omega arith))
 
 module _ (I H kw k h i r y : ℕ) where
   -- a record by what its kind says
@@ -83,11 +73,10 @@ module _ (I H kw k h i r y : ℕ) where
       (λ n₆. simp (no_kind (eqb-false k 1 n₁) (eqb-false k 2 n₂) (eqb-false k 3 n₃) n₄ (eqb-false k 6 n₆), and-false)))))))
 
   -- the same from the code's tests
-  pub record-rule : (key : ℕ) (n₁ n₂ n₃ n₄ a b c d e : Bool)
-      → k ≡ kind_of key → h ≡ holder_of key → i ≡ intertie_of key → r ≡ rank_of key → y ≡ years_of key
-      → n₁ ≡ names_holder k → n₂ ≡ names_intertie k → n₃ ≡ names_rank k → n₄ ≡ names_years k
-      → a ≡ pick n₁ (ltb h H) (eqb h 0) → b ≡ pick n₂ (ltb i I) (eqb i 0) → c ≡ pick n₃ (leb 1 r) (eqb r 0)
-      → d ≡ pick n₄ (within 1 30 y) (eqb y 0) → e ≡ within (least_of k) (most_of k) kw
-      → (a && b && c && d && e) ≡ record_stands I H key kw
-  record-rule key n₁ n₂ n₃ n₄ a b c d e ek eh ei er ey e₁ e₂ e₃ e₄ ea eb ec ed ee =
-      rw (ea, eb, ec, ed, ee, e₁, e₂, e₃, e₄) (by-its-kind key ek eh ei er ey)
+  pub record-rule : (key : ℕ) (rule : Rule) (a b c d : Bool)
+      → k ≡ kind_of key → h ≡ holder_of key → i ≡ intertie_of key → r ≡ rank_of key → y ≡ years_of key → rule ≡ rule_of k
+      → a ≡ pick rule.holder (ltb h H) (eqb h 0) → b ≡ pick rule.intertie (ltb i I) (eqb i 0) → c ≡ pick rule.rank (leb 1 r) (eqb r 0)
+      → d ≡ pick rule.years (within 1 30 y) (eqb y 0)
+      → (a && b && c && d && leb rule.least kw && leb kw rule.most) ≡ record_stands I H key kw
+  record-rule key rule a b c d ek eh ei er ey e ea eb ec ed =
+      rw (ea, eb, ec, ed, e) (and_assoc (pick (names_holder k) (ltb h H) (eqb h 0) && pick (names_intertie k) (ltb i I) (eqb i 0) && pick (names_rank k) (leb 1 r) (eqb r 0) && pick (names_years k) (within 1 30 y) (eqb y 0)) (leb (least_of k) kw) (leb kw (most_of k)) ∙ by-its-kind key ek eh ei er ey)

@@ -15,6 +15,7 @@ use Rattle.base.proofs.ChoiceLaws.{pick-by}
 use Rattle.sheet_keys.specs.Key.{kind_of, holder_of, intertie_of, rank_of}
 use Rattle.sheet_records.specs.Sheet.{interties, holders, count, key_at, kw_at, sum_over, how_many, kw_of, is_limit, is_load_share, is_new_use, limit, outside, load_share, existing, existing_on, pre_ra, new_use_kw, new_use_intertie}
 use Rattle.sheet_records.specs.Refusal.{within, bad_length, bad_sizes, some_holder, no_holder, some_intertie, no_intertie, some_rank, no_rank, some_years, no_years, repeatable, record_stands, records_stand, one_limit_each, one_load_share_each, no_rank_twice, rules_hold, limits_hold, sheet_refusal}
+use Rattle.sheet_reading.specs.declared.tables.Tables.{Tables}
 use Rattle.sheet_reading.specs.Tables.{ReadSheet}
 use Rattle.sheet_reading.specs.Workers.Adding.{Filled}
 use Rattle.base.proofs.ChoiceLaws.{both, equal-two, equal-three}
@@ -190,9 +191,9 @@ standing s e =
       new-use-place = new-use-placed s few some c.2;
     }
 
--- a reading that answers 0: the sheet stands, and the tables are its own
-pub read-stands : (s counts₀ kw₀ ties₀ counts kw ties : List ℕ) (r : ℕ) → ReadSheet s counts₀ kw₀ ties₀ r counts kw ties → r ≡ 0 → Stands s × Filled s counts kw ties
-read-stands s counts₀ kw₀ ties₀ counts kw ties r read e =
+-- a reading that refuses nothing: the sheet stands, and the tables are its own
+pub read-stands : (s : List ℕ) (before now : Tables) (r : ℕ) → ReadSheet s before r now → r ≡ 0 → Stands s × Filled s now
+read-stands s before now r read e =
     let zero : sheet_refusal s ≡ 0 = sym read.answer ∙ e in
     let c = conditions s zero in (
       standing s zero,

@@ -7,6 +7,7 @@ use Rattle.base.specs.Words.{tab}
 use Rattle.sheet_keys.specs.Key.{key_interties, key_ranks, kind_of, holder_of, intertie_of, rank_of}
 use Rattle.sheet_records.specs.Sheet.{sum_over, key_at, kw_at}
 use Rattle.sheet_records.specs.Refusal.{bad_length, bad_sizes, sheet_refusal}
+use Rattle.sheet_reading.specs.declared.tables.Tables.{Tables}
 
 -- a holder's row has a slot for each intertie that a key can name, or for each rank
 abbrev pub holder_interties : ℕ
@@ -97,9 +98,9 @@ intertie_table s = table s (λ k. intertie_of (key_at s k))
 abbrev pub after : List ℕ → List ℕ → List ℕ → List ℕ
 after s before filled = pick (bad_length s || bad_sizes s) before filled
 
--- a reading of a sheet: its refusal, and three lent tables, as they were before and as they are now
-pub record ReadSheet (s counts₀ kw₀ interties₀ : List ℕ) (refusal : ℕ) (counts kw interties : List ℕ) : Type 0 where
+-- a reading of a sheet: its refusal, and lent tables, as they were before and as they are now
+pub record ReadSheet (s : List ℕ) (before : Tables) (refusal : ℕ) (now : Tables) : Type 0 where
   pub answer : refusal ≡ sheet_refusal s
-  pub counted : counts ≡ after s counts₀ (count_table s)
-  pub summed : kw ≡ after s kw₀ (kw_table s)
-  pub placed : interties ≡ after s interties₀ (intertie_table s)
+  pub counted : now.counts ≡ after s before.counts (count_table s)
+  pub summed : now.kw ≡ after s before.kw (kw_table s)
+  pub placed : now.interties ≡ after s before.interties (intertie_table s)

@@ -1,18 +1,20 @@
 // Refusals 1 to 4 of a sheet, lowest first, and the tables of the sheet.
-ghost use Rattle.std.specs.Prelude.{◌≡◌, false, ◌&&◌, not, ◌+◌, ◌≤◌, ◌<◌, leb, eqb, replicate};
+ghost use Rattle.std.specs.Prelude.{◌≡◌, ◌&&◌, not, ◌≤◌, ◌<◌, leb, eqb, length, replicate};
 ghost use Rattle.base.specs.Limits.{most_interties, most_holders};
 ghost use Rattle.base.specs.Sums.{all_to};
 ghost use Rattle.base.specs.Words.{at};
 ghost use Rattle.sheet_keys.specs.Key.{key_interties};
-ghost use Rattle.sheet_records.specs.Refusal.{within, bad_length, bad_sizes, sheet_refusal};
+ghost use Rattle.base.specs.Refused.{number_in};
+ghost use Rattle.sheet_records.specs.Refusal.{within, sheet_refusal};
 ghost use Rattle.sheet_reading.specs.Tables.{slots, count_table, kw_table, ReadSheet};
 ghost use Rattle.sheet_reading.specs.Workers.Adding.{SlotsOf};
-ghost use Rattle.sheet_reading.specs.Workers.Deciding.{table_rules_hold, table_existing_on, table_limit_holds, Modest};
+ghost use Rattle.sheet_reading.specs.Workers.Deciding.{sizes_refusal, table_rules_hold, table_existing_on, table_limit_holds, Modest};
 
-use crate::tables::SLOTS;
+use crate::tables::{SLOTS, Tables};
 use crate::{rules, tables};
+use base::limits;
 use base::limits::MOST_RECORDS;
-use base::{limits, refusals};
+use base::refusals::Refusal;
 use sheet_records::words;
 
 const MOST_INTERTIES: u32 = limits::MOST_INTERTIES as u32;
@@ -23,34 +25,40 @@ const MOST_HOLDERS: u32 = limits::MOST_HOLDERS as u32;
 fn bad_sizes(interties: u32, holders: u32) -> bool
     ensures { result ≡ not (within 1 most_interties interties && within 1 most_holders holders) }
 {
-    !(((1 <= interties) & (interties <= MOST_INTERTIES))
-        & ((1 <= holders) & (holders <= MOST_HOLDERS)))
+    !((1..=MOST_INTERTIES).contains(&interties) & (1..=MOST_HOLDERS).contains(&holders))
 }
 
-// Whether each of the first n slots counts one record.
-fn each_once(counts: &[u16; SLOTS], n: usize) -> bool
-    requires { n ≤ slots }
-    ensures { result ≡ all_to n (λ i. eqb (at counts.now i) 1) }
+// Refusals 1 and 2, those of the length and of I and H.
+fn sizes_stand(sheet: &[u8]) -> Result<(), Refusal>
+    ensures { number_in result ≡ sizes_refusal sheet.now }
+{
+    if words::bad_length(sheet) {
+        return Err(Refusal::SheetLength);
+    }
+    if bad_sizes(words::intertie_count(sheet), words::holder_count(sheet)) {
+        return Err(Refusal::Sizes);
+    }
+    Ok(())
+}
+
+// Whether each of these slots counts one record. All of them are looked at, so that no branch stands between them.
+fn each_once(counts: &[u16]) -> bool
+    ensures { result ≡ all_to (length counts.now) (λ i. eqb (at counts.now i) 1) }
 {
     let mut hold = true;
-    let mut i = 0;
-    while i < n {
-        hold = hold & (counts[i] == 1);
-        i += 1;
+    for count in counts {
+        hold = hold & (*count == 1);
     }
     hold
 }
 
-// Whether none of n slots from a first one on counts two records.
-fn none_twice(counts: &[u16; SLOTS], from: usize, n: usize) -> bool
-    requires { from + n ≤ slots }
-    ensures { result ≡ all_to n (λ j. leb (at counts.now (from + j)) 1) }
+// Whether none of them counts two. Again all are looked at.
+fn none_twice(counts: &[u16]) -> bool
+    ensures { result ≡ all_to (length counts.now) (λ i. leb (at counts.now i) 1) }
 {
     let mut hold = true;
-    let mut j = 0;
-    while j < n {
-        hold = hold & (counts[from + j] <= 1);
-        j += 1;
+    for count in counts {
+        hold = hold & (*count <= 1);
     }
     hold
 }
@@ -61,10 +69,8 @@ fn existing_on(kw: &[u64; SLOTS], holders: usize, intertie: usize) -> u64
     ensures { result ≡ table_existing_on kw.now holders intertie }
 {
     let mut sum = 0;
-    let mut h = 0;
-    while h < holders {
+    for h in 0..holders {
         sum += kw[tables::EXISTING + tables::HOLDER_INTERTIES * h + intertie];
-        h += 1;
     }
     sum
 }
@@ -83,10 +89,8 @@ fn limits_hold(kw: &[u64; SLOTS], holders: usize, interties: usize) -> bool
     ensures { result ≡ all_to interties (table_limit_holds kw.now holders) }
 {
     let mut hold = true;
-    let mut i = 0;
-    while i < interties {
+    for i in 0..interties {
         hold = hold & limit_holds(kw, holders, i);
-        i += 1;
     }
     hold
 }
@@ -97,9 +101,9 @@ fn rules_hold(stand: bool, counts: &[u16; SLOTS], holders: usize, interties: usi
     ensures { result ≡ table_rules_hold stand counts.now holders interties }
 {
     stand
-        & each_once(counts, interties)
-        & none_twice(counts, tables::LOAD_SHARES, holders)
-        & none_twice(counts, tables::NEW_USE, tables::HOLDER_RANKS * holders)
+        & each_once(&counts[..interties])
+        & none_twice(&counts[tables::LOAD_SHARES..tables::LOAD_SHARES + holders])
+        & none_twice(&counts[tables::NEW_USE..tables::NEW_USE + tables::HOLDER_RANKS * holders])
 }
 
 // Refusals 3 and 4 of a sheet that 1 and 2 let pass, and its records in cleared tables. The slots of the records are at hand.
@@ -108,67 +112,50 @@ fn read_sized(
     found: &[u32; MOST_RECORDS],
     counts: &mut [u16; SLOTS],
     kw: &mut [u64; SLOTS],
-) -> u32
-    requires { (bad_length sheet.now ≡ false)
-        × (bad_sizes sheet.now ≡ false)
+) -> Result<(), Refusal>
+    requires { (sizes_refusal sheet.now ≡ 0)
         × SlotsOf sheet.now found.now
         × (counts.old ≡ replicate slots 0)
         × (kw.old ≡ replicate slots 0) }
-    ensures { (result ≡ sheet_refusal sheet.now)
+    ensures { (number_in result ≡ sheet_refusal sheet.now)
         × (counts.new ≡ count_table sheet.now)
         × (kw.new ≡ kw_table sheet.now) }
 {
-    let intertie_count = words::intertie_count(sheet) as usize;
-    let holder_count = words::holder_count(sheet) as usize;
+    let interties = words::intertie_count(sheet) as usize;
+    let holders = words::holder_count(sheet) as usize;
     let stand = rules::records_stand(sheet);
     tables::add_records(sheet, found, counts, kw);
-    let rules = rules_hold(stand, counts, holder_count, intertie_count);
-    let limits = limits_hold(kw, holder_count, intertie_count);
+    let rules = rules_hold(stand, counts, holders, interties);
+    let limits = limits_hold(kw, holders, interties);
     if !rules {
-        return refusals::RECORDS;
+        return Err(Refusal::Records);
     }
     if !limits {
-        return refusals::ABOVE_LIMIT;
+        return Err(Refusal::AboveLimit);
     }
-    0
+    Ok(())
 }
 
-// The refusal of a sheet, 0 where it stands, and the tables of its records (docs/RULES.md, "The sheet"). The tables may have any
+// Refuses a sheet, or lets it pass, and fills the tables of its records (docs/RULES.md, "The sheet"). The tables may have any
 // content before; where refusal 1 or 2 applies they keep it.
-pub fn read_sheet(
-    sheet: &[u8],
-    counts: &mut [u16; SLOTS],
-    kw: &mut [u64; SLOTS],
-    interties: &mut [u16; SLOTS],
-) -> u32
-    ensures { ReadSheet sheet.now counts.old kw.old interties.old
-        result counts.new kw.new interties.new }
+pub fn read_sheet(sheet: &[u8], tables: &mut Tables) -> Result<(), Refusal>
+    ensures { ReadSheet sheet.now tables.old (number_in result) tables.new }
 {
-    if words::bad_length(sheet) {
-        return refusals::SHEET_LENGTH;
-    }
-    if bad_sizes(words::intertie_count(sheet), words::holder_count(sheet)) {
-        return refusals::SIZES;
-    }
-    *counts = [0; SLOTS];
-    *kw = [0; SLOTS];
-    *interties = [0; SLOTS];
+    sizes_stand(sheet)?;
+    tables.counts = [0; SLOTS];
+    tables.kw = [0; SLOTS];
+    tables.interties = [0; SLOTS];
     let mut found = [0; MOST_RECORDS];
     tables::find_slots(sheet, &mut found);
-    tables::place_records(sheet, &found, interties);
-    read_sized(sheet, &found, counts, kw)
+    tables::place_records(sheet, &found, &mut tables.interties);
+    read_sized(sheet, &found, &mut tables.counts, &mut tables.kw)
 }
 
-// The refusal of a sheet alone, 0 where it stands (docs/RULES.md, "The sheet").
-pub fn sheet_refusal(sheet: &[u8]) -> u32
-    ensures { result ≡ sheet_refusal sheet.now }
+// Refuses a sheet, or lets it pass (docs/RULES.md, "The sheet").
+pub fn sheet_refusal(sheet: &[u8]) -> Result<(), Refusal>
+    ensures { number_in result ≡ sheet_refusal sheet.now }
 {
-    if words::bad_length(sheet) {
-        return refusals::SHEET_LENGTH;
-    }
-    if bad_sizes(words::intertie_count(sheet), words::holder_count(sheet)) {
-        return refusals::SIZES;
-    }
+    sizes_stand(sheet)?;
     let mut found = [0; MOST_RECORDS];
     tables::find_slots(sheet, &mut found);
     let mut counts = [0; SLOTS];

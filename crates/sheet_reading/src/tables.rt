@@ -12,8 +12,7 @@ ghost use Rattle.sheet_reading.specs.Workers.Adding.{add, SlotsOf};
 use base::limits::MOST_RECORDS;
 use base::{kinds, limits};
 use sheet_keys::key;
-use sheet_records::cursor::{Cursor, Read};
-use sheet_records::{reader, words};
+use sheet_records::reader;
 
 // A holder's row has a slot for each intertie that a key can name, or for each rank.
 pub const HOLDER_INTERTIES: usize = key::INTERTIES;
@@ -38,6 +37,27 @@ const OTHER: u32 = 12_480;
 
 // How many slots a table has.
 pub const SLOTS: usize = 12_481;
+
+// The tables of a sheet: how many records each slot has, their kilowatts, and their interties.
+#[derive(Clone, Copy)]
+pub struct Tables {
+    pub counts: [u16; SLOTS],
+    pub kw: [u64; SLOTS],
+    pub interties: [u16; SLOTS],
+}
+
+impl Tables {
+    // Tables of no records.
+    pub fn empty() -> Tables
+        ensures { (result.counts ≡ replicate slots 0) × (result.kw ≡ replicate slots 0) × (result.interties ≡ replicate slots 0) }
+    {
+        Tables {
+            counts: [0; SLOTS],
+            kw: [0; SLOTS],
+            interties: [0; SLOTS],
+        }
+    }
+}
 
 // A choice without a branch: both numbers are at hand.
 fn either(test: bool, one: u32, other: u32) -> u32
@@ -100,18 +120,8 @@ pub(crate) fn find_slots(sheet: &[u8], found: &mut [u32; MOST_RECORDS])
     requires { (bad_length sheet.now ≡ false) × (length found.old ≡ most_records) }
     ensures { SlotsOf sheet.now found.new }
 {
-    let count = words::record_count(sheet) as usize;
-    let mut cursor = Cursor::first();
-    loop {
-        let read = reader::read_record(sheet, count, cursor.at);
-        match read {
-            Read::Next(record, next) => {
-                let place = cursor.at;
-                found[place] = slot_of(record.key);
-                cursor = next;
-            }
-            Read::End => return,
-        }
+    for (place, record) in reader::records(sheet).enumerate() {
+        found[place] = slot_of(record.key);
     }
 }
 
@@ -140,19 +150,8 @@ pub(crate) fn add_records(
     ensures { (counts.new ≡ count_table sheet.now)
         × (kw.new ≡ kw_table sheet.now) }
 {
-    let count = words::record_count(sheet) as usize;
-    let mut cursor = Cursor::first();
-    loop {
-        let read = reader::read_record(sheet, count, cursor.at);
-        match read {
-            Read::Next(record, next) => {
-                let place = cursor.at;
-                let slot = found[place];
-                add_at(slot, record.kw, counts, kw);
-                cursor = next;
-            }
-            Read::End => return,
-        }
+    for (place, record) in reader::records(sheet).enumerate() {
+        add_at(found[place], record.kw, counts, kw);
     }
 }
 
@@ -172,19 +171,7 @@ pub(crate) fn place_records(sheet: &[u8], found: &[u32; MOST_RECORDS], interties
         × (interties.old ≡ replicate slots 0) }
     ensures { interties.new ≡ intertie_table sheet.now }
 {
-    let count = words::record_count(sheet) as usize;
-    let mut cursor = Cursor::first();
-    loop {
-        let read = reader::read_record(sheet, count, cursor.at);
-        match read {
-            Read::Next(record, next) => {
-                let place = cursor.at;
-                let slot = found[place];
-                let intertie = key::intertie(record.key);
-                place_at(slot, intertie, interties);
-                cursor = next;
-            }
-            Read::End => return,
-        }
+    for (place, record) in reader::records(sheet).enumerate() {
+        place_at(found[place], key::intertie(record.key), interties);
     }
 }

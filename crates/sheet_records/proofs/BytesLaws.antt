@@ -2,10 +2,13 @@
 use Prim.Native.Nat.{ℕ, zero, suc, ◌+◌, ◌*◌, ◌/◌, ◌%◌, ◌≤◌, ◌<◌}
 use mathlib.Core.Path.{◌≡◌, refl, sym, ap, ◌∙◌}
 use mathlib.Core.List.{List, [], ◌∷◌, ◌++◌}
+use Rattle.std.proofs.Common.{append_assoc}
+use Rattle.std.proofs.lemmas.List.{drop-drop}
 use native.Mathlib.Nat.{mod-eq_of_lt, div-add-mod, div-div-eq-div-mul, not-suc-le-zero, le_of_suc-le-suc}
-use native.Mathlib.Numerals.{add-one, add-two, add-three}
+use native.Mathlib.Numerals.{add-one}
 use native.Mathlib.Omega.{arith}
-use lib.ListN.{length, length-append, take, drop, set, get_or-append}
+use Rattle.std.specs.Prelude.{Option, Some, None}
+use lib.ListN.{length, length-append, take, drop, get_or-append}
 use lib.Seq.{sets, sets-eq, take-suc, length-take-le, get_or-append-add}
 use borrow.Author.Tests.{le-leb, lt-leb, eq-eqb, ne_eqb}
 use Rattle.base.specs.Words.{at}
@@ -27,10 +30,13 @@ pub bytes_one : (w : ℕ) → bytes_of (w ∷ []) ≡ word_bytes w
 unfolding bytes_of
 bytes_one w = refl
 
--- a word stored byte by byte
-pub word-stored : (w from : ℕ) (l : List ℕ) →
-    set (set (set (set l from (w % 256)) (from + 1) (w / 256 % 256)) (from + 2) (w / 65_536 % 256)) (from + 3) (w / 16_777_216 % 256) ≡ sets l from (word_bytes w)
-word-stored w from l = rw (add-one, add-two, add-three) refl
+-- the bytes of a word copied over as many
+pub word-copied : (w from n : ℕ) (l : List ℕ) → from + 4 ≤ length l → n ≡ 4 → take from l ++ (word_bytes w ++ drop n (drop from l)) ≡ sets l from (word_bytes w)
+word-copied w from n l room e =
+    ap (λ (m : ℕ). take from l ++ (word_bytes w ++ drop m (drop from l))) e
+    ∙ ap (λ (t : List ℕ). take from l ++ (word_bytes w ++ t)) (drop-drop 4 from l)
+    ∙ sym (append_assoc (take from l) (word_bytes w) (drop (from + 4) l))
+    ∙ sym (sets-eq (word_bytes w) l from room)
 
 -- a loop that stores words: before the first turn, and a turn
 pub words-none : (from : ℕ) (words l : List ℕ) → l ≡ sets l from (bytes_of (take 0 words))
@@ -75,10 +81,10 @@ sheet-length I H keys kws even = omega (arith, length-bytes (I ∷ H ∷ length 
 
 -- what writing leaves: nothing for each of three reasons, or the sheet
 module _ (I H : ℕ) (keys kws l : List ℕ) where
-  pub too_many : 1024 < length keys → SheetWritten I H keys kws l 0 l
+  pub too_many : 1024 < length keys → SheetWritten I H keys kws l None l
   too_many many = record { answer = rw (lt-leb (length keys) 1024 many) refl; memory = rw (lt-leb (length keys) 1024 many) refl }
 
-  pub uneven : (length kws ≡ length keys → ⊥) → length keys ≤ 1024 → SheetWritten I H keys kws l 0 l
+  pub uneven : (length kws ≡ length keys → ⊥) → length keys ≤ 1024 → SheetWritten I H keys kws l None l
   uneven ne few =
       record {
         answer = rw (le-leb (length keys) 1024 few, ne_eqb (length kws) (length keys) ne) refl;
@@ -86,7 +92,7 @@ module _ (I H : ℕ) (keys kws l : List ℕ) where
       }
 
   module _ (few : length keys ≤ 1024) (even : length kws ≡ length keys) where
-    pub no_room : length l < size_of (length keys) → SheetWritten I H keys kws l 0 l
+    pub no_room : length l < size_of (length keys) → SheetWritten I H keys kws l None l
     no_room short =
         record {
           answer = rw (le-leb (length keys) 1024 few, eq-eqb (length kws) (length keys) even, lt-leb (size_of (length keys)) (length l) short) refl;
@@ -94,10 +100,10 @@ module _ (I H : ℕ) (keys kws l : List ℕ) where
         }
 
     module _ (room : size_of (length keys) ≤ length l) where
-      pub sheet-written : (size : ℕ) (m : List ℕ) → size ≡ size_of (length keys) → m ≡ sets l 0 (sheet_bytes I H keys kws) → SheetWritten I H keys kws l size m
+      pub sheet-written : (size : ℕ) (m : List ℕ) → size ≡ size_of (length keys) → m ≡ sets l 0 (sheet_bytes I H keys kws) → SheetWritten I H keys kws l (Some size) m
       sheet-written size m es em =
           record {
-            answer = rw (le-leb (length keys) 1024 few, eq-eqb (length kws) (length keys) even, le-leb (size_of (length keys)) (length l) room) es;
+            answer = rw (le-leb (length keys) 1024 few, eq-eqb (length kws) (length keys) even, le-leb (size_of (length keys)) (length l) room) (ap Some es);
             memory =
                 rw (le-leb (length keys) 1024 few, eq-eqb (length kws) (length keys) even, le-leb (size_of (length keys)) (length l) room)
                 (let none : 0 + length (sheet_bytes I H keys kws) ≡ length (sheet_bytes I H keys kws) = omega arith in
@@ -105,7 +111,7 @@ module _ (I H : ℕ) (keys kws l : List ℕ) where
           }
 
       -- a sheet that fits is written
-      pub written-whole : (size : ℕ) (m : List ℕ) → SheetWritten I H keys kws l size m → (size ≡ size_of (length keys)) × (m ≡ with_sheet (sheet_bytes I H keys kws) l)
+      pub written-whole : (size : Option ℕ) (m : List ℕ) → SheetWritten I H keys kws l size m → (size ≡ Some (size_of (length keys))) × (m ≡ with_sheet (sheet_bytes I H keys kws) l)
       written-whole size m w = (
         rw (le-leb (length keys) 1024 few, eq-eqb (length kws) (length keys) even, le-leb (size_of (length keys)) (length l) room) at w.answer,
         rw (le-leb (length keys) 1024 few, eq-eqb (length kws) (length keys) even, le-leb (size_of (length keys)) (length l) room) at w.memory,

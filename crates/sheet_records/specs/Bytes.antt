@@ -1,5 +1,5 @@
 -- The bytes of a sheet: three words I, H and K, then K keys, then K quantities.
-use Rattle.std.specs.Prelude.{ℕ, ◌/◌, ◌%◌, ◌≡◌, Bool, ◌&&◌, List, [], ◌∷◌, ◌++◌, leb, eqb, length, drop}
+use Rattle.std.specs.Prelude.{ℕ, ◌/◌, ◌%◌, ◌≡◌, Bool, ◌&&◌, List, [], ◌∷◌, ◌++◌, leb, eqb, length, drop, Option, Some, None}
 use Rattle.base.specs.Choice.{pick}
 use Rattle.base.specs.Limits.{most_records}
 use Rattle.sheet_records.specs.Sheet.{size_of}
@@ -25,7 +25,7 @@ with_sheet sheet memory = sheet ++ drop (length sheet) memory
 abbrev pub sheet_fits : ℕ → ℕ → ℕ → Bool
 sheet_fits keys kws room = leb keys most_records && eqb kws keys && leb (size_of keys) room
 
--- what writing a sheet answers and leaves in memory: its bytes, or 0 and nothing where it doesn't fit
-pub record SheetWritten (I H : ℕ) (keys kws before : List ℕ) (bytes : ℕ) (after : List ℕ) : Type 0 where
-  pub answer : bytes ≡ pick (sheet_fits (length keys) (length kws) (length before)) (size_of (length keys)) 0
+-- what writing a sheet gives and leaves in memory: the number of its bytes, or none and nothing where it doesn't fit
+pub record SheetWritten (I H : ℕ) (keys kws before : List ℕ) (bytes : Option ℕ) (after : List ℕ) : Type 0 where
+  pub answer : bytes ≡ pick (sheet_fits (length keys) (length kws) (length before)) (Some (size_of (length keys))) None
   pub memory : after ≡ pick (sheet_fits (length keys) (length kws) (length before)) (with_sheet (sheet_bytes I H keys kws) before) before

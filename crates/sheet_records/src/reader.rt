@@ -1,41 +1,81 @@
-// A reader over the lent bytes: it holds the sheet, how many records it has, and the place of the next.
-// Functions over it take it apart and leave the work to `cursor::read_at`; `read_record` serves callers
-// that have a plain slice.
+// A reader over the lent bytes of a sheet: an iterator that gives its records in their order. It leaves the work to
+// `read_at`, which finds the record at a place of a plain slice.
 ghost use Rattle.std.specs.Prelude.{◌≡◌};
-ghost use Rattle.sheet_records.specs.Reading.{read_of};
+ghost use Rattle.std.specs.Iterator.{YieldsFirst, item_count};
+ghost use Rattle.sheet_records.specs.Reading.{read_of, records_of};
 
-use crate::cursor;
-use crate::cursor::Read;
+use crate::words;
+use crate::words::WORD_BYTES;
+use base::limits::{MOST_RECORDS, RECORD_BYTES, SHEET_HEADER_BYTES};
+use std::marker::Model;
 
-// A reader: the sheet, how many records it has, and the place of the next.
-#[derive(Clone, Copy)]
-pub struct Reader<'a> {
-    pub sheet: &'a [u8],
-    pub count: usize,
-    pub place: usize,
+// A record: its key, and its quantity in kilowatts.
+#[derive(Clone, Copy, Debug, PartialEq, Eq)]
+pub struct Record {
+    pub key: u32,
+    pub kw: u32,
 }
 
-// The reader of a sheet of `count` records that stands at a place.
-pub fn standing_at<'a>(sheet: &'a [u8], count: usize, place: usize) -> Reader<'a>
-    ensures { (result.sheet ≡ sheet.entry) × (result.count ≡ count) × (result.place ≡ place) }
+// The record at a place of the bytes of a sheet of `count` records, or none past the last; bytes of another length have none.
+pub fn read_at(sheet: &[u8], count: usize, place: usize) -> Option<Record>
+    ensures { result ≡ read_of sheet.now count place }
+{
+    if MOST_RECORDS < count {
+        return None;
+    }
+    if sheet.len() != SHEET_HEADER_BYTES + RECORD_BYTES * count {
+        return None;
+    }
+    if count <= place {
+        return None;
+    }
+    let key = words::word(sheet, SHEET_HEADER_BYTES + WORD_BYTES * place);
+    let kw = words::word(
+        sheet,
+        SHEET_HEADER_BYTES + WORD_BYTES * count + WORD_BYTES * place,
+    );
+    Some(Record { key, kw })
+}
+
+// A reader, seen as the list of the records that are left: the sheet, how many records it has, and the place of the next.
+#[derive(Drop)]
+pub struct Reader<'a> {
+    sheet: &'a [u8],
+    count: usize,
+    place: usize,
+}
+
+impl<'a> Model for Reader<'a> {
+    ghost use Rattle.std.specs.Prelude.{List};
+    ghost use Rattle.sheet_records.specs.Reading.{records_from};
+    ghost use Rattle.sheet_records.specs.declared.reader.Record.{Record};
+
+    ghost Value = { List Record };
+
+    ghost view = { λ reader. records_from reader.sheet.now reader.count reader.place };
+}
+
+// The records of a sheet from the first on. A sheet that refusal 1 refuses has none.
+pub fn records<'a>(sheet: &'a [u8]) -> Reader<'a>
+    ensures { result ≡ records_of sheet.now }
 {
     Reader {
         sheet,
-        count,
-        place,
+        count: words::record_count(sheet) as usize,
+        place: 0,
     }
 }
 
-// The record where a reader stands and the place after it, or the end.
-pub fn next<'a>(reader: Reader<'a>) -> Read
-    ensures { result ≡ read_of reader.entry.sheet.now reader.entry.count reader.entry.place }
-{
-    cursor::read_at(reader.sheet, reader.count, reader.place)
-}
+impl<'a> Iterator for Reader<'a> {
+    type Item = Record;
 
-// The record at a place of a sheet of `count` records, read by a reader that stands there.
-pub fn read_record(sheet: &[u8], count: usize, place: usize) -> Read
-    ensures { result ≡ read_of sheet.now count place }
-{
-    next(standing_at(sheet, count, place))
+    ghost next_gives = { YieldsFirst (λ left. left) };
+
+    ghost remaining = { item_count (λ left. left) };
+
+    fn next(&mut self) -> Option<Record> {
+        let record = read_at(self.sheet, self.count, self.place)?;
+        self.place += 1;
+        Some(record)
+    }
 }

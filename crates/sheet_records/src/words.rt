@@ -1,7 +1,6 @@
 // The words of a sheet, and refusal 1, which says how many there are.
-ghost use Rattle.std.specs.Prelude.{◌≡◌, ◌+◌, ◌≤◌, ◌<◌, ltb, length};
+ghost use Rattle.std.specs.Prelude.{◌≡◌, ◌+◌, ◌≤◌, ltb, length};
 ghost use Rattle.base.specs.Choice.{pick};
-ghost use Rattle.base.specs.Words.{at};
 ghost use Rattle.base.specs.Limits.{sheet_header_bytes};
 ghost use Rattle.sheet_records.specs.Sheet.{word_size, word_at, interties, holders, count};
 ghost use Rattle.sheet_records.specs.Refusal.{bad_length};
@@ -21,23 +20,17 @@ pub(crate) const HOLDERS_AT: usize = 4;
 
 pub(crate) const COUNT_AT: usize = 8;
 
-// The byte at a place.
-fn byte(sheet: &[u8], place: usize) -> u32
-    requires { place < length sheet.now }
-    ensures { (result ≡ at sheet.now place) × (result < 256) }
-{
-    sheet[place] as u32
-}
-
 // The little-endian word from a byte on.
 pub(crate) fn word(sheet: &[u8], from: usize) -> u32
     requires { from + word_size ≤ length sheet.now }
     ensures { result ≡ word_at sheet.now from }
 {
-    byte(sheet, from)
-        + 256 * byte(sheet, from + 1)
-        + 65_536 * byte(sheet, from + 2)
-        + 16_777_216 * byte(sheet, from + 3)
+    u32::from_le_bytes([
+        sheet[from],
+        sheet[from + 1],
+        sheet[from + 2],
+        sheet[from + 3],
+    ])
 }
 
 // Refusal 1: under 12 bytes, K over 1,024, or a length that is not 12 + 8·K. K is tested before 12 + 8·K is formed.
@@ -54,32 +47,34 @@ pub fn bad_length(sheet: &[u8]) -> bool
     sheet.len() != SHEET_HEADER_BYTES + RECORD_BYTES * count
 }
 
-// I, 0 where the sheet is under 12 bytes.
-pub fn intertie_count(sheet: &[u8]) -> u32
-    ensures { let s = sheet.now in result ≡ pick (ltb (length s) sheet_header_bytes) 0 (interties s) }
+// A word of the header, 0 where the sheet is under 12 bytes.
+fn header_word(sheet: &[u8], from: usize) -> u32
+    requires { from + word_size ≤ sheet_header_bytes }
+    ensures { let s = sheet.now in result ≡ pick (ltb (length s) sheet_header_bytes) 0 (word_at s from) }
 {
     if sheet.len() < SHEET_HEADER_BYTES {
         return 0;
     }
-    word(sheet, INTERTIES_AT)
+    word(sheet, from)
+}
+
+// I, 0 where the sheet is under 12 bytes.
+pub fn intertie_count(sheet: &[u8]) -> u32
+    ensures { let s = sheet.now in result ≡ pick (ltb (length s) sheet_header_bytes) 0 (interties s) }
+{
+    header_word(sheet, INTERTIES_AT)
 }
 
 // H, 0 where the sheet is under 12 bytes.
 pub fn holder_count(sheet: &[u8]) -> u32
     ensures { let s = sheet.now in result ≡ pick (ltb (length s) sheet_header_bytes) 0 (holders s) }
 {
-    if sheet.len() < SHEET_HEADER_BYTES {
-        return 0;
-    }
-    word(sheet, HOLDERS_AT)
+    header_word(sheet, HOLDERS_AT)
 }
 
 // K, 0 where the sheet is under 12 bytes.
 pub fn record_count(sheet: &[u8]) -> u32
     ensures { let s = sheet.now in result ≡ pick (ltb (length s) sheet_header_bytes) 0 (count s) }
 {
-    if sheet.len() < SHEET_HEADER_BYTES {
-        return 0;
-    }
-    word(sheet, COUNT_AT)
+    header_word(sheet, COUNT_AT)
 }

@@ -13,10 +13,7 @@ fn write_word(word: u32, from: usize, output: &mut [u8])
     requires { from + word_size ≤ length output.old }
     ensures { output.new ≡ sets output.old from (word_bytes word) }
 {
-    output[from] = (word % 256) as u8;
-    output[from + 1] = (word / 256 % 256) as u8;
-    output[from + 2] = (word / 65_536 % 256) as u8;
-    output[from + 3] = (word / 16_777_216 % 256) as u8;
+    output[from..from + WORD_BYTES].copy_from_slice(&word.to_le_bytes());
 }
 
 // Writes words one after the other, from a byte on.
@@ -24,10 +21,8 @@ fn write_words(words: &[u32], from: usize, output: &mut [u8])
     requires { from + word_size * length words.now ≤ length output.old }
     ensures { output.new ≡ sets output.old from (bytes_of words.now) }
 {
-    let mut k = 0;
-    while k < words.len() {
-        write_word(words[k], from + WORD_BYTES * k, output);
-        k += 1;
+    for (k, word) in words.iter().enumerate() {
+        write_word(*word, from + WORD_BYTES * k, output);
     }
 }
 
@@ -46,29 +41,30 @@ fn put_sheet(interties: u32, holders: u32, keys: &[u32], kws: &[u32], output: &m
     write_words(kws, SHEET_HEADER_BYTES + WORD_BYTES * count, output);
 }
 
-// Writes a sheet of I interties and H holders into the first bytes of the output, and answers how many they are. Where there are
-// over 1,024 keys, not as many quantities as keys, or too short an output, nothing is written and the answer is 0.
+// Writes a sheet of I interties and H holders into the first bytes of the output, and gives how many they are. Where there are
+// over 1,024 keys, not as many quantities as keys, or too short an output, nothing is written. Keys and quantities are two lists,
+// as they stand in the bytes.
 pub fn write_sheet(
     interties: u32,
     holders: u32,
     keys: &[u32],
     kws: &[u32],
     output: &mut [u8],
-) -> usize
+) -> Option<usize>
     ensures { SheetWritten interties holders keys.now kws.now
         output.old result output.new }
 {
     let count = keys.len();
     if MOST_RECORDS < count {
-        return 0;
+        return None;
     }
     if kws.len() != count {
-        return 0;
+        return None;
     }
     let size = SHEET_HEADER_BYTES + RECORD_BYTES * count;
     if output.len() < size {
-        return 0;
+        return None;
     }
     put_sheet(interties, holders, keys, kws, output);
-    size
+    Some(size)
 }

@@ -2,6 +2,7 @@
 use Rattle.std.specs.Prelude.{ℕ, ◌+◌, ◌<◌, ◌≡◌, List, set}
 use Rattle.base.specs.Words.{at}
 use Rattle.sheet_records.specs.Sheet.{count, key_at}
+use Rattle.sheet_reading.specs.declared.tables.Tables.{Tables}
 use Rattle.sheet_reading.specs.Tables.{slot_of, count_table, kw_table, intertie_table}
 
 -- a list that has the slot of each record of a sheet
@@ -12,8 +13,8 @@ SlotsOf s found = (k : ℕ) → k < count s → at found k ≡ slot_of (key_at s
 abbrev pub add : List ℕ → ℕ → ℕ → List ℕ
 add l j a = set l j (at l j + a)
 
--- three tables that were filled from a sheet
-pub record Filled (s counts kw interties : List ℕ) : Type 0 where
-  pub counted : counts ≡ count_table s
-  pub summed : kw ≡ kw_table s
-  pub placed : interties ≡ intertie_table s
+-- tables that were filled from a sheet
+pub record Filled (s : List ℕ) (tables : Tables) : Type 0 where
+  pub counted : tables.counts ≡ count_table s
+  pub summed : tables.kw ≡ kw_table s
+  pub placed : tables.interties ≡ intertie_table s

@@ -1,12 +1,9 @@
-use Rattle.base.proofs.Prelude.{zero-le, refl, sym, rules}
-use Rattle.base.proofs.SumLaws.{all_to-zero, all_more, all_done}
+use Rattle.base.proofs.Prelude.{refl, sym}
+use Rattle.base.proofs.SumLaws.{all_to-zero, all_more}
 use Rattle.sheet_reading.proofs.refusal.each_once.Goals as goal
 
-pub loop-i-init : goal.loop-i-init
-loop-i-init c = (zero-le, sym (all_to-zero _))
+pub loop-count-init : goal.loop-count-init
+loop-count-init c = sym (all_to-zero _)
 
-pub loop-i-preserved : goal.loop-i-preserved
-loop-i-preserved c = (search rules, all_more _ _ _ _ c.loop-i.invariant.1 refl)
-
-pub returns : goal.returns
-returns c = all_done _ _ _ _ c.loop-i.invariant.1 c.loop-i.invariant.0 c.loop-i-test.false
+pub loop-count-preserved : goal.loop-count-preserved
+loop-count-preserved c = all_more _ _ _ _ c.loop-count.invariant refl

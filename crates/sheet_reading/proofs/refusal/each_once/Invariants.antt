@@ -1,9 +1,6 @@
--- `sheet_reading::refusal::each_once` meets its contract: after i turns the test of the first i slots. The measure is the slots still to come.
-use Rattle.base.proofs.Prelude.{◌-◌, ◌≤◌, ◌≡◌, eqb, all_to, at}
+-- `refusal::each_once` meets its contract: the test of the slots so far.
+use Rattle.base.proofs.Prelude.{◌≡◌, eqb, all_to, at}
 use Rattle.sheet_reading.proofs.refusal.each_once.Given as goal
 
-abbrev pub invariant-loop-i : goal.invariant-loop-i
-invariant-loop-i l = (l.i ≤ l.n) × (l.hold ≡ all_to l.i (λ k. eqb (at l.counts k) 1))
-
-abbrev pub decreases-loop-i : goal.decreases-loop-i
-decreases-loop-i l = l.n - l.i
+abbrev pub invariant-loop-count : goal.invariant-loop-count
+invariant-loop-count l = l.hold ≡ all_to l.count-index (λ k. eqb (at l.counts k) 1)

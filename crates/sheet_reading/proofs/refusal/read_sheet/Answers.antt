@@ -1,58 +1,25 @@
--- `sheet_reading::refusal::read_sheet` meets its contract: refusals 1 and 2 leave the tables alone, and past them the tables are filled.
-use Rattle.base.proofs.Prelude.{the, ◌≡◌, refl, sym, ◌∙◌, false, rules}
-use Rattle.sheet_records.specs.Refusal.{bad_length, bad_sizes}
-use Rattle.sheet_records.proofs.RefusalLaws.{long-enough}
-use Rattle.sheet_reading.proofs.DecideLaws.{sizes-decided, read-sheet-1, read-sheet-2, read-sheet-filled}
+-- `refusal::read_sheet` meets its contract: refusals 1 and 2 leave the tables alone, and past them the tables are filled.
+use Rattle.base.proofs.Prelude.{ap, sym, ◌∙◌, refl}
+use Rattle.base.specs.Refused.{number_in}
+use Rattle.base.proofs.RefusedLaws.{handed-on}
+use Rattle.sheet_reading.proofs.DecideLaws.{sizes-pass, read-refused, read-filled}
 use Rattle.sheet_reading.proofs.refusal.read_sheet.Goals as goal
 
-pub returns-then-bad_length : goal.returns-then-bad_length
-returns-then-bad_length c = read-sheet-1 _ _ _ _ _ c.bad_length.ensures c.if-bad_length.true
+pub returns-in_err-sizes_stand : goal.returns-in_err-sizes_stand
+returns-in_err-sizes_stand c =
+    rw (handed-on _ _ c.from_residual.ensures.1)
+    (read-refused _ _ _ _ (sym (ap number_in c.in_err-sizes_stand.was) ∙ c.sizes_stand.ensures) refl)
 
-pub returns-then-bad_sizes : goal.returns-then-bad_sizes
-returns-then-bad_sizes c =
-    read-sheet-2 _ _ _ _ _ _ c.bad_length.ensures c.if-bad_length.false (the (c.bad_sizes.result ≡ bad_sizes c.args.sheet.now) (
-    let long = sym c.bad_length.ensures ∙ c.if-bad_length.false in
-    sizes-decided _ _ _ _ (long-enough _ _ _ long c.intertie_count.ensures) (long-enough _ _ _ long c.holder_count.ensures) c.bad_sizes.ensures)) c.if-bad_sizes.true
+pub find_slots-requires : goal.find_slots-requires
+find_slots-requires c = ((sizes-pass _ (sym c.sizes_stand.ensures ∙ ap number_in c.in_ok-sizes_stand.was)).0, refl)
 
 pub place_records-requires : goal.place_records-requires
-place_records-requires c = (
-  (the ((bad_length c.args.sheet.now ≡ false) × (bad_sizes c.args.sheet.now ≡ false)) ((
-    sym c.bad_length.ensures ∙ c.if-bad_length.false,
-    sym (the (c.bad_sizes.result ≡ bad_sizes c.args.sheet.now) (
-        let long = sym c.bad_length.ensures ∙ c.if-bad_length.false in
-        sizes-decided _ _ _ _ (long-enough _ _ _ long c.intertie_count.ensures) (long-enough _ _ _ long c.holder_count.ensures) c.bad_sizes.ensures)) ∙ c.if-bad_sizes.false,
-  ))).0,
-  c.find_slots.ensures,
-  refl,
-)
+place_records-requires c = ((sizes-pass _ (sym c.sizes_stand.ensures ∙ ap number_in c.in_ok-sizes_stand.was)).0, c.find_slots.ensures, refl)
 
 pub read_sized-requires : goal.read_sized-requires
-read_sized-requires c =
-    let p = (the ((bad_length c.args.sheet.now ≡ false) × (bad_sizes c.args.sheet.now ≡ false)) ((
-      sym c.bad_length.ensures ∙ c.if-bad_length.false,
-      sym (the (c.bad_sizes.result ≡ bad_sizes c.args.sheet.now) (
-          let long = sym c.bad_length.ensures ∙ c.if-bad_length.false in
-          sizes-decided _ _ _ _ (long-enough _ _ _ long c.intertie_count.ensures) (long-enough _ _ _ long c.holder_count.ensures) c.bad_sizes.ensures)) ∙ c.if-bad_sizes.false,
-    ))) in (p.0, p.1, c.find_slots.ensures, refl, refl)
+read_sized-requires c = (sym c.sizes_stand.ensures ∙ ap number_in c.in_ok-sizes_stand.was, c.find_slots.ensures, refl, refl)
 
 pub returns : goal.returns
 returns c =
-    let p = (the ((bad_length c.args.sheet.now ≡ false) × (bad_sizes c.args.sheet.now ≡ false)) ((
-      sym c.bad_length.ensures ∙ c.if-bad_length.false,
-      sym (the (c.bad_sizes.result ≡ bad_sizes c.args.sheet.now) (
-          let long = sym c.bad_length.ensures ∙ c.if-bad_length.false in
-          sizes-decided _ _ _ _ (long-enough _ _ _ long c.intertie_count.ensures) (long-enough _ _ _ long c.holder_count.ensures) c.bad_sizes.ensures)) ∙ c.if-bad_sizes.false,
-    ))) in
-    read-sheet-filled _ _ _ _ _ _ _ _ p.0 p.1 c.read_sized.ensures.0
+    read-filled _ _ _ _ (sym c.sizes_stand.ensures ∙ ap number_in c.in_ok-sizes_stand.was) c.read_sized.ensures.0
     (record { counted = c.read_sized.ensures.1; summed = c.read_sized.ensures.2; placed = c.place_records.ensures })
-
-pub find_slots-requires : goal.find_slots-requires
-find_slots-requires c = (
-  (the ((bad_length c.args.sheet.now ≡ false) × (bad_sizes c.args.sheet.now ≡ false)) ((
-    sym c.bad_length.ensures ∙ c.if-bad_length.false,
-    sym (the (c.bad_sizes.result ≡ bad_sizes c.args.sheet.now) (
-        let long = sym c.bad_length.ensures ∙ c.if-bad_length.false in
-        sizes-decided _ _ _ _ (long-enough _ _ _ long c.intertie_count.ensures) (long-enough _ _ _ long c.holder_count.ensures) c.bad_sizes.ensures)) ∙ c.if-bad_sizes.false,
-  ))).0,
-  search rules,
-)

@@ -1,38 +1,17 @@
--- `sheet_reading::refusal::sheet_refusal` meets its contract: refusals 1 and 2 by their tests, 3 and 4 by a reading into cleared tables.
-use Rattle.base.proofs.Prelude.{the, ◌≡◌, refl, sym, ◌∙◌, [], false, rules}
-use Rattle.sheet_records.specs.Refusal.{bad_length, bad_sizes}
-use Rattle.sheet_records.proofs.RefusalLaws.{long-enough}
-use Rattle.sheet_reading.proofs.DecideLaws.{sizes-decided, read-sheet-1, read-sheet-2}
+-- `refusal::sheet_refusal` meets its contract: refusals 1 and 2 by their tests, 3 and 4 by a reading into cleared tables.
+use Rattle.base.proofs.Prelude.{ap, sym, ◌∙◌, refl}
+use Rattle.base.specs.Refused.{number_in}
+use Rattle.base.proofs.RefusedLaws.{handed-on}
+use Rattle.sheet_reading.proofs.DecideLaws.{sizes-pass, sizes-refused}
 use Rattle.sheet_reading.proofs.refusal.sheet_refusal.Goals as goal
 
-pub returns-then-bad_length : goal.returns-then-bad_length
-returns-then-bad_length c = (read-sheet-1 _ [] [] [] _ c.bad_length.ensures c.if-bad_length.true).answer
-
-pub returns-then-bad_sizes : goal.returns-then-bad_sizes
-returns-then-bad_sizes c =
-    (read-sheet-2 _ [] [] [] _ _ c.bad_length.ensures c.if-bad_length.false (the (c.bad_sizes.result ≡ bad_sizes c.args.sheet.now) (
-    let long = sym c.bad_length.ensures ∙ c.if-bad_length.false in
-    sizes-decided _ _ _ _ (long-enough _ _ _ long c.intertie_count.ensures) (long-enough _ _ _ long c.holder_count.ensures) c.bad_sizes.ensures)) c.if-bad_sizes.true).answer
-
-pub read_sized-requires : goal.read_sized-requires
-read_sized-requires c =
-    let p = (the ((bad_length c.args.sheet.now ≡ false) × (bad_sizes c.args.sheet.now ≡ false)) ((
-      sym c.bad_length.ensures ∙ c.if-bad_length.false,
-      sym (the (c.bad_sizes.result ≡ bad_sizes c.args.sheet.now) (
-          let long = sym c.bad_length.ensures ∙ c.if-bad_length.false in
-          sizes-decided _ _ _ _ (long-enough _ _ _ long c.intertie_count.ensures) (long-enough _ _ _ long c.holder_count.ensures) c.bad_sizes.ensures)) ∙ c.if-bad_sizes.false,
-    ))) in (p.0, p.1, c.find_slots.ensures, refl, refl)
+pub returns-in_err-sizes_stand : goal.returns-in_err-sizes_stand
+returns-in_err-sizes_stand c =
+    handed-on _ _ c.from_residual.ensures.1
+    ∙ (sizes-refused _ _ _ (sym (ap number_in c.in_err-sizes_stand.was) ∙ c.sizes_stand.ensures) refl).0
 
 pub find_slots-requires : goal.find_slots-requires
-find_slots-requires c = (
-  (the ((bad_length c.args.sheet.now ≡ false) × (bad_sizes c.args.sheet.now ≡ false)) ((
-    sym c.bad_length.ensures ∙ c.if-bad_length.false,
-    sym (the (c.bad_sizes.result ≡ bad_sizes c.args.sheet.now) (
-        let long = sym c.bad_length.ensures ∙ c.if-bad_length.false in
-        sizes-decided _ _ _ _ (long-enough _ _ _ long c.intertie_count.ensures) (long-enough _ _ _ long c.holder_count.ensures) c.bad_sizes.ensures)) ∙ c.if-bad_sizes.false,
-  ))).0,
-  search rules,
-)
+find_slots-requires c = ((sizes-pass _ (sym c.sizes_stand.ensures ∙ ap number_in c.in_ok-sizes_stand.was)).0, refl)
 
-pub returns : goal.returns
-returns c = c.read_sized.ensures.0
+pub read_sized-requires : goal.read_sized-requires
+read_sized-requires c = (sym c.sizes_stand.ensures ∙ ap number_in c.in_ok-sizes_stand.was, c.find_slots.ensures, refl, refl)

@@ -1,60 +1,47 @@
-use Rattle.base.proofs.Prelude.{the, ◌≤◌, refl, arith, rules}
-use Rattle.sheet_records.specs.Sheet.{count}
+use Rattle.base.proofs.Prelude.{refl, arith, rules}
+use mathlib.Core.Logic.{inl}
 use Rattle.sheet_records.proofs.RefusalLaws.{whole}
-use Rattle.sheet_records.proofs.ReadingLaws.{RecordRead, read_next, read-end}
-use Rattle.sheet_reading.proofs.PassLaws.{added_none, slot-below, count_room, kw-room, added_more, added-all}
+use Rattle.sheet_records.proofs.ReadingLaws.{begun, places-fit, placed-read, all-placed, one-more}
+use Rattle.sheet_reading.proofs.PassLaws.{added-none, slot-below, count_room, kw-room, added_more, added-all}
 use Rattle.sheet_reading.proofs.tables.add_records.Goals as goal
 
-pub loop-record-init : goal.loop-record-init
-loop-record-init c =
-    (added_none _ _ _ _ c.requires.2 c.first-cursor.ensures, added_none _ _ _ _ c.requires.3 c.first-cursor.ensures)
+pub loop-place-init-derived : goal.loop-place-init-derived
+loop-place-init-derived c = ((tt, tt, inl (places-fit _ _ (begun _ _ _ _ c.requires.0 c.into_iter-place-iterator.ensures.into_iter_gives c.enumerate-place-items.ensures.source c.records.ensures c.enumerate-place-items.ensures.count))), tt)
 
 pub bounds-found-place : goal.bounds-found-place
 bounds-found-place c =
-    omega (
-      arith,
-      (the (
-          RecordRead c.args.sheet.now c.loop-record.cursor.at c.in-Next.record c.in-Next.next) (
-          read_next _ _ _ c.requires.0 c.record_count-count.ensures _ c.read_record-read.ensures _ _ c.in-Next.is)),
-      whole _ _ c.requires.0 refl,
-    )
+    let read = placed-read _ _ (begun _ _ _ _ c.requires.0 c.into_iter-place-iterator.ensures.into_iter_gives c.enumerate-place-items.ensures.source c.records.ensures c.enumerate-place-items.ensures.count) _ _ _ c.loop-place.yielded_by _ c.in-Some.ensures.steps in
+    omega (arith, read.1, read.0.inside, (whole _ _ c.requires.0 refl).few)
+
+pub offset_bounds-found-place : goal.offset_bounds-found-place
+offset_bounds-found-place c =
+    let read = placed-read _ _ (begun _ _ _ _ c.requires.0 c.into_iter-place-iterator.ensures.into_iter_gives c.enumerate-place-items.ensures.source c.records.ensures c.enumerate-place-items.ensures.count) _ _ _ c.loop-place.yielded_by _ c.in-Some.ensures.steps in
+    let few = (whole _ _ c.requires.0 refl).few in
+    search rules
+
+pub loop-place-init : goal.loop-place-init
+loop-place-init c = (added-none _ _ _ c.requires.2, added-none _ _ _ c.requires.3)
 
 pub add_at-requires : goal.add_at-requires
 add_at-requires c =
-    let all = c.requires.1 in
+    let read = placed-read _ _ (begun _ _ _ _ c.requires.0 c.into_iter-place-iterator.ensures.into_iter_gives c.enumerate-place-items.ensures.source c.records.ensures c.enumerate-place-items.ensures.count) _ _ _ c.loop-place.yielded_by _ c.in-Some.ensures.steps in
     let few = (whole _ _ c.requires.0 refl).few in
-    let more = (the (
-    RecordRead c.args.sheet.now c.loop-record.cursor.at c.in-Next.record c.in-Next.next) (
-    read_next _ _ _ c.requires.0 c.record_count-count.ensures _ c.read_record-read.ensures _ _ c.in-Next.is)).inside in (
-      slot-below c.args.sheet.now c.args.found.now all _ more,
-      count_room c.args.sheet.now c.args.found.now all _ more _ c.loop-record.invariant.0 few,
-      kw-room c.args.sheet.now c.args.found.now all _ more _ c.loop-record.invariant.1 _ few (λ i. (c.shared_slice_known-1.given i).fits) (the (
-          RecordRead c.args.sheet.now c.loop-record.cursor.at c.in-Next.record c.in-Next.next) (
-          read_next _ _ _ c.requires.0 c.record_count-count.ensures _ c.read_record-read.ensures _ _ c.in-Next.is)).kw-is,
+    let all = c.requires.1 in
+    rw read.1 (
+      slot-below _ _ all _ _ read.0,
+      count_room _ _ all _ _ read.0 _ c.loop-place.invariant.0 few,
+      kw-room _ _ all _ _ read.0 _ c.loop-place.invariant.1 few (λ i. (c.type_inv.sheet i).fits),
     )
 
-pub loop-record-preserved : goal.loop-record-preserved
-loop-record-preserved c =
-    let now = (the (
-    RecordRead c.args.sheet.now c.loop-record.cursor.at c.in-Next.record c.in-Next.next) (
-    read_next _ _ _ c.requires.0 c.record_count-count.ensures _ c.read_record-read.ensures _ _ c.in-Next.is)) in
+pub loop-place-preserved : goal.loop-place-preserved
+loop-place-preserved c =
+    let read = placed-read _ _ (begun _ _ _ _ c.requires.0 c.into_iter-place-iterator.ensures.into_iter_gives c.enumerate-place-items.ensures.source c.records.ensures c.enumerate-place-items.ensures.count) _ _ _ c.loop-place.yielded_by _ c.in-Some.ensures.steps in
     let all = c.requires.1 in (
-      added_more c.args.sheet.now c.args.found.now all _ now.inside _ _ c.loop-record.invariant.0 _ _ _ refl c.add_at.ensures.0 now.next-is,
-      added_more c.args.sheet.now c.args.found.now all _ now.inside _ _ c.loop-record.invariant.1 _ _ _ now.kw-is c.add_at.ensures.1 now.next-is,
+      added_more _ _ all _ _ read.0 _ _ c.loop-place.invariant.0 _ _ _ refl (rw read.1 at c.add_at.ensures.0) (one-more _ _),
+      added_more _ _ all _ _ read.0 _ _ c.loop-place.invariant.1 _ _ _ read.0.kw-is (rw read.1 at c.add_at.ensures.1) (one-more _ _),
     )
 
-pub returns-in-End : goal.returns-in-End
-returns-in-End c =
-    let done = read-end _ _ _ c.requires.0 c.record_count-count.ensures _ c.read_record-read.ensures c.in-End.is in
-    (added-all _ _ _ _ c.loop-record.invariant.0 done, added-all _ _ _ _ c.loop-record.invariant.1 done)
-
-pub offset_bounds-found-place : goal.offset_bounds-found-place
-offset_bounds-found-place c = let few = (the (count c.args.sheet.now ≤ 1024) ((whole _ _ c.requires.0 refl).few)) in search rules
-
-pub loop-record-smaller : goal.loop-record-smaller
-loop-record-smaller c = omega (
-  arith,
-  (the (
-      RecordRead c.args.sheet.now c.loop-record.cursor.at c.in-Next.record c.in-Next.next) (
-      read_next _ _ _ c.requires.0 c.record_count-count.ensures _ c.read_record-read.ensures _ _ c.in-Next.is)),
-)
+pub returns : goal.returns
+returns c =
+    let done = all-placed _ _ (begun _ _ _ _ c.requires.0 c.into_iter-place-iterator.ensures.into_iter_gives c.enumerate-place-items.ensures.source c.records.ensures c.enumerate-place-items.ensures.count) _ _ _ c.loop-place.yielded_by c.in-None.ensures.steps in
+    (added-all _ _ _ _ c.loop-place.invariant.0 done, added-all _ _ _ _ c.loop-place.invariant.1 done)

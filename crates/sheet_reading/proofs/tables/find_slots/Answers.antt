@@ -1,39 +1,34 @@
-use Rattle.base.proofs.Prelude.{the, ◌≤◌, refl, arith, rules}
-use Rattle.sheet_records.specs.Sheet.{count}
+use Rattle.base.proofs.Prelude.{refl, arith, rules}
+use mathlib.Core.Logic.{inl}
 use Rattle.sheet_records.proofs.RefusalLaws.{whole}
-use Rattle.sheet_records.proofs.ReadingLaws.{RecordRead, read_next, read-end}
+use Rattle.sheet_records.proofs.ReadingLaws.{begun, places-fit, placed-read, all-placed, one-more}
 use Rattle.sheet_reading.proofs.PassLaws.{slotted-none, slotted-more, slotted-all}
 use Rattle.sheet_reading.proofs.tables.find_slots.Goals as goal
 
-pub loop-record-init : goal.loop-record-init
-loop-record-init c = slotted-none _ _ _ c.first-cursor.ensures
+pub loop-place-init-derived : goal.loop-place-init-derived
+loop-place-init-derived c = ((tt, tt, inl (places-fit _ _ (begun _ _ _ _ c.requires.0 c.into_iter-place-iterator.ensures.into_iter_gives c.enumerate-place-items.ensures.source c.records.ensures c.enumerate-place-items.ensures.count))), tt)
+
+pub loop-place-init : goal.loop-place-init
+loop-place-init c = slotted-none _ _
 
 pub bounds-found-place : goal.bounds-found-place
 bounds-found-place c =
-    let now = (the (
-    RecordRead c.args.sheet.now c.loop-record.cursor.at c.in-Next.record c.in-Next.next) (
-    read_next _ _ _ c.requires.0 c.record_count-count.ensures _ c.read_record-read.ensures _ _ c.in-Next.is)) in
-    omega (arith, now.inside, (whole _ _ c.requires.0 refl).few)
-
-pub loop-record-preserved : goal.loop-record-preserved
-loop-record-preserved c =
-    let now = (the (
-    RecordRead c.args.sheet.now c.loop-record.cursor.at c.in-Next.record c.in-Next.next) (
-    read_next _ _ _ c.requires.0 c.record_count-count.ensures _ c.read_record-read.ensures _ _ c.in-Next.is)) in
-    slotted-more _ _ _ _ c.loop-record.invariant _ _ _ now.inside now.key-is c.slot_of.ensures now.next-is
-
-pub returns-in-End : goal.returns-in-End
-returns-in-End c =
-    slotted-all _ _ _ _ c.loop-record.invariant c.requires.1 (whole _ _ c.requires.0 refl).few
-    (read-end _ _ _ c.requires.0 c.record_count-count.ensures _ c.read_record-read.ensures c.in-End.is)
+    let read = placed-read _ _ (begun _ _ _ _ c.requires.0 c.into_iter-place-iterator.ensures.into_iter_gives c.enumerate-place-items.ensures.source c.records.ensures c.enumerate-place-items.ensures.count) _ _ _ c.loop-place.yielded_by _ c.in-Some.ensures.steps in
+    omega (arith, read.1, read.0.inside, (whole _ _ c.requires.0 refl).few)
 
 pub offset_bounds-found-place : goal.offset_bounds-found-place
-offset_bounds-found-place c = let few = (the (count c.args.sheet.now ≤ 1024) ((whole _ _ c.requires.0 refl).few)) in search rules
+offset_bounds-found-place c =
+    let read = placed-read _ _ (begun _ _ _ _ c.requires.0 c.into_iter-place-iterator.ensures.into_iter_gives c.enumerate-place-items.ensures.source c.records.ensures c.enumerate-place-items.ensures.count) _ _ _ c.loop-place.yielded_by _ c.in-Some.ensures.steps in
+    let few = (whole _ _ c.requires.0 refl).few in
+    search rules
 
-pub loop-record-smaller : goal.loop-record-smaller
-loop-record-smaller c = omega (
-  arith,
-  (the (
-      RecordRead c.args.sheet.now c.loop-record.cursor.at c.in-Next.record c.in-Next.next) (
-      read_next _ _ _ c.requires.0 c.record_count-count.ensures _ c.read_record-read.ensures _ _ c.in-Next.is)),
-)
+pub loop-place-preserved : goal.loop-place-preserved
+loop-place-preserved c =
+    let read = placed-read _ _ (begun _ _ _ _ c.requires.0 c.into_iter-place-iterator.ensures.into_iter_gives c.enumerate-place-items.ensures.source c.records.ensures c.enumerate-place-items.ensures.count) _ _ _ c.loop-place.yielded_by _ c.in-Some.ensures.steps in
+    slotted-more _ _ _ _ read.0 (one-more _ _) _ _ _ _ read.1 c.loop-place.invariant c.slot_of.ensures
+
+pub returns : goal.returns
+returns c =
+    let loop = c.loop-place in
+    slotted-all _ _ _ _ loop.invariant (all-placed _ _ (begun _ _ _ _ c.requires.0 c.into_iter-place-iterator.ensures.into_iter_gives c.enumerate-place-items.ensures.source c.records.ensures c.enumerate-place-items.ensures.count) _ _ _ loop.yielded_by c.in-None.ensures.steps)
+    (omega (arith, c.requires.1, (whole _ _ c.requires.0 refl).few))

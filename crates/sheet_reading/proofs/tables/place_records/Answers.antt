@@ -1,56 +1,41 @@
-use Rattle.base.proofs.Prelude.{the, ◌≤◌, refl, ap, ◌∙◌, arith, rules}
-use Rattle.sheet_records.specs.Sheet.{count}
+use Rattle.base.proofs.Prelude.{refl, ap, ◌∙◌, arith, rules}
+use mathlib.Core.Logic.{inl}
 use Rattle.sheet_records.proofs.RefusalLaws.{whole}
-use Rattle.sheet_records.proofs.ReadingLaws.{RecordRead, read_next, read-end}
+use Rattle.sheet_records.proofs.ReadingLaws.{begun, places-fit, placed-read, all-placed, one-more}
 use Rattle.sheet_keys.specs.Key.{intertie_of}
-use Rattle.sheet_reading.proofs.PassLaws.{added_none, slot-below, tie-room, added_more, added-all}
+use Rattle.sheet_reading.proofs.PassLaws.{added-none, slot-below, tie-room, added_more, added-all}
 use Rattle.sheet_reading.proofs.tables.place_records.Goals as goal
 
-pub loop-record-init : goal.loop-record-init
-loop-record-init c = added_none _ _ _ _ c.requires.2 c.first-cursor.ensures
+pub loop-place-init-derived : goal.loop-place-init-derived
+loop-place-init-derived c = ((tt, tt, inl (places-fit _ _ (begun _ _ _ _ c.requires.0 c.into_iter-place-iterator.ensures.into_iter_gives c.enumerate-place-items.ensures.source c.records.ensures c.enumerate-place-items.ensures.count))), tt)
 
 pub bounds-found-place : goal.bounds-found-place
 bounds-found-place c =
-    omega (
-      arith,
-      (the (
-          RecordRead c.args.sheet.now c.loop-record.cursor.at c.in-Next.record c.in-Next.next) (
-          read_next _ _ _ c.requires.0 c.record_count-count.ensures _ c.read_record-read.ensures _ _ c.in-Next.is)),
-      whole _ _ c.requires.0 refl,
-    )
+    let read = placed-read _ _ (begun _ _ _ _ c.requires.0 c.into_iter-place-iterator.ensures.into_iter_gives c.enumerate-place-items.ensures.source c.records.ensures c.enumerate-place-items.ensures.count) _ _ _ c.loop-place.yielded_by _ c.in-Some.ensures.steps in
+    omega (arith, read.1, read.0.inside, (whole _ _ c.requires.0 refl).few)
+
+pub offset_bounds-found-place : goal.offset_bounds-found-place
+offset_bounds-found-place c =
+    let read = placed-read _ _ (begun _ _ _ _ c.requires.0 c.into_iter-place-iterator.ensures.into_iter_gives c.enumerate-place-items.ensures.source c.records.ensures c.enumerate-place-items.ensures.count) _ _ _ c.loop-place.yielded_by _ c.in-Some.ensures.steps in
+    let few = (whole _ _ c.requires.0 refl).few in
+    search rules
+
+pub loop-place-init : goal.loop-place-init
+loop-place-init c = added-none _ _ _ c.requires.2
 
 pub place_at-requires : goal.place_at-requires
 place_at-requires c =
+    let read = placed-read _ _ (begun _ _ _ _ c.requires.0 c.into_iter-place-iterator.ensures.into_iter_gives c.enumerate-place-items.ensures.source c.records.ensures c.enumerate-place-items.ensures.count) _ _ _ c.loop-place.yielded_by _ c.in-Some.ensures.steps in
+    let few = (whole _ _ c.requires.0 refl).few in
     let all = c.requires.1 in
-    let more = (the (
-    RecordRead c.args.sheet.now c.loop-record.cursor.at c.in-Next.record c.in-Next.next) (
-    read_next _ _ _ c.requires.0 c.record_count-count.ensures _ c.read_record-read.ensures _ _ c.in-Next.is)).inside in (
-      slot-below c.args.sheet.now c.args.found.now all _ more,
-      tie-room c.args.sheet.now c.args.found.now all _ more _ c.loop-record.invariant _ (whole _ _ c.requires.0 refl).few (c.intertie-intertie.ensures ∙ ap intertie_of (the (
-          RecordRead c.args.sheet.now c.loop-record.cursor.at c.in-Next.record c.in-Next.next) (
-          read_next _ _ _ c.requires.0 c.record_count-count.ensures _ c.read_record-read.ensures _ _ c.in-Next.is)).key-is),
-    )
+    rw (read.1, c.intertie.ensures) (slot-below _ _ all _ _ read.0, tie-room _ _ all _ _ read.0 _ c.loop-place.invariant few)
 
-pub loop-record-preserved : goal.loop-record-preserved
-loop-record-preserved c =
-    let now = (the (
-    RecordRead c.args.sheet.now c.loop-record.cursor.at c.in-Next.record c.in-Next.next) (
-    read_next _ _ _ c.requires.0 c.record_count-count.ensures _ c.read_record-read.ensures _ _ c.in-Next.is)) in
-    let all = c.requires.1 in
-    added_more c.args.sheet.now c.args.found.now all _ now.inside _ _ c.loop-record.invariant _ _ _ (c.intertie-intertie.ensures ∙ ap intertie_of now.key-is) c.place_at.ensures now.next-is
+pub loop-place-preserved : goal.loop-place-preserved
+loop-place-preserved c =
+    let read = placed-read _ _ (begun _ _ _ _ c.requires.0 c.into_iter-place-iterator.ensures.into_iter_gives c.enumerate-place-items.ensures.source c.records.ensures c.enumerate-place-items.ensures.count) _ _ _ c.loop-place.yielded_by _ c.in-Some.ensures.steps in
+    added_more _ _ c.requires.1 _ _ read.0 _ _ c.loop-place.invariant _ _ _ (c.intertie.ensures ∙ ap intertie_of read.0.key-is) (rw read.1 at c.place_at.ensures) (one-more _ _)
 
-pub returns-in-End : goal.returns-in-End
-returns-in-End c =
-    let done = read-end _ _ _ c.requires.0 c.record_count-count.ensures _ c.read_record-read.ensures c.in-End.is in
-    added-all _ _ _ _ c.loop-record.invariant done
-
-pub offset_bounds-found-place : goal.offset_bounds-found-place
-offset_bounds-found-place c = let few = (the (count c.args.sheet.now ≤ 1024) ((whole _ _ c.requires.0 refl).few)) in search rules
-
-pub loop-record-smaller : goal.loop-record-smaller
-loop-record-smaller c = omega (
-  arith,
-  (the (
-      RecordRead c.args.sheet.now c.loop-record.cursor.at c.in-Next.record c.in-Next.next) (
-      read_next _ _ _ c.requires.0 c.record_count-count.ensures _ c.read_record-read.ensures _ _ c.in-Next.is)),
-)
+pub returns : goal.returns
+returns c =
+    let done = all-placed _ _ (begun _ _ _ _ c.requires.0 c.into_iter-place-iterator.ensures.into_iter_gives c.enumerate-place-items.ensures.source c.records.ensures c.enumerate-place-items.ensures.count) _ _ _ c.loop-place.yielded_by c.in-None.ensures.steps in
+    added-all _ _ _ _ c.loop-place.invariant done

@@ -1,5 +1,5 @@
 -- `writing::write_sheet` meets its contract: it is refused for each of three reasons, or written.
-use Rattle.base.proofs.Prelude.{refl, rules}
+use Rattle.base.proofs.Prelude.{rules}
 use Rattle.sheet_records.proofs.BytesLaws.{too_many, uneven, no_room, sheet-written}
 use Rattle.sheet_records.proofs.writing.write_sheet.Goals as goal
 
@@ -13,4 +13,4 @@ pub returns-then-output-size : goal.returns-then-output-size
 returns-then-output-size c = search (rules, no_room)
 
 pub returns : goal.returns
-returns c = search (rules, sheet-written, refl)
+returns c = search (rules, sheet-written)
