@@ -21,6 +21,9 @@ use Rattle.sheet_reading.proofs.SheetLaws.{conditions, standing, first-words}
 use Rattle.state.specs.Layout as Layout
 use Rattle.state.specs.Orderly.{state_refusal}
 use Rattle.state.proofs.OrderlyLaws.{Orderly, refusal-none}
+use Rattle.call.specs.Outcome.{or_else, whenever}
+use Rattle.base.specs.Stages.{open_stage}
+use Rattle.base.specs.Refusals.{stage_refused}
 use Rattle.call.proofs.LadderLaws.{none_first, none-second}
 use Rattle.carrying.specs.Line.{Line}
 use Rattle.carrying.specs.Lines.{highest, next_lines}
@@ -28,6 +31,16 @@ use Rattle.carrying.specs.NewSheet.{new_sheet}
 use Rattle.carrying.specs.Carry.{early_refusal, sizes_differ, does_not_fit, carry_refusal, Carried, carried}
 use Rattle.carrying.specs.Workers.Draft.{Drafted}
 use Rattle.carrying.proofs.FitLaws.{lines_fit, keys-same, kws-same, fit_same}
+
+-- the early refusals, where the sheet is refused and where it stands
+module _ (sheet state : List ℕ) (n : ℕ) where
+  pub early_of_sheet : n ≡ sheet_refusal sheet → n ≢ 0 → n ≡ early_refusal sheet state
+  unfolding early_refusal
+  early_of_sheet e some = rw (← e, ne_eqb n 0 some) refl
+
+  pub early_of_state : sheet_refusal sheet ≡ 0 → n ≡ or_else (state_refusal state) (whenever (not (eqb (Layout.stage_of state) open_stage)) stage_refused) → n ≡ early_refusal sheet state
+  unfolding early_refusal
+  early_of_state zero e = rw zero e
 
 -- what refusals 1 to 7 let pass
 module _ (sheet state : List ℕ) (e : early_refusal sheet state ≡ 0) where

@@ -23,6 +23,7 @@ use Rattle.carrying.specs.Line.{Line, key_of, quantity_of, line_in}
 use Rattle.carrying.specs.Lines.{yearless, next_line, rank_for, highest, lock_line, next_lines}
 use Rattle.carrying.specs.Carry.{does_not_fit}
 use Rattle.carrying.specs.Workers.Draft.{places, line_key, Drafted}
+use Rattle.std.specs.Prelude.{Option}
 use Rattle.sheet_records.specs.Bytes.{sheet_bytes, with_sheet, SheetWritten}
 use Rattle.sheet_keys.proofs.KeyLaws.{uncut}
 use Rattle.sheet_records.proofs.BytesLaws.{written-whole}
@@ -73,7 +74,7 @@ first-words table words n e room each =
     ext_get_or 0 (take n table) words (size ∙ e) (λ j b. let m : j < n = omega arith in get_or-take n table j 0 m ∙ each j m)
 
 -- a draft that fits is written whole
-pub draft-whole : (I H n : ℕ) (keys kws l : List ℕ) → length keys ≡ places → length kws ≡ places → n ≤ 1024 → size_of n ≤ length l → (size : ℕ) (m : List ℕ) →
+pub draft-whole : (I H n : ℕ) (keys kws l : List ℕ) → length keys ≡ places → length kws ≡ places → n ≤ 1024 → size_of n ≤ length l → (size : Option ℕ) (m : List ℕ) →
     SheetWritten I H (take n keys) (take n kws) l size m → m ≡ with_sheet (sheet_bytes I H (take n keys) (take n kws)) l
 draft-whole I H n keys kws l ek eq few room size m w =
     let one : length (take n keys) ≡ n = length-take-le n keys (omega arith) in

@@ -26,13 +26,11 @@ use state::layout;
 fn early_refusal(sheet: &[u8], state: &[u32]) -> u32
     ensures { result ≡ early_refusal sheet.now state.now }
 {
-    let of_sheet = sheet_reading::refusal::sheet_refusal(sheet);
-    if of_sheet != 0 {
-        return of_sheet;
-    }
-    match call::check_open(state) {
-        Ok(()) => 0,
+    let of_stage = call::whenever(call::not_open(state), refusals::STAGE);
+    let of_state = call::or_else(orderly::state_refusal(state), of_stage);
+    match sheet_reading::refusal::sheet_refusal(sheet) {
         Err(refusal) => refusal.number(),
+        Ok(()) => of_state,
     }
 }
 

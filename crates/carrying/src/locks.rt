@@ -61,10 +61,8 @@ fn add_holder_locks(
 {
     let interties = state::word(state, layout::SIZES, layout::INTERTIES);
     let mut drafted = place;
-    let mut intertie = 0;
-    while intertie < interties {
+    for intertie in 0..interties {
         drafted = add_lock(state, holder, intertie, drafted, keys, kws, ranks);
-        intertie += 1;
     }
     drafted
 }
@@ -85,10 +83,8 @@ pub(crate) fn add_locks(
 {
     let holders = state::word(state, layout::SIZES, layout::HOLDERS);
     let mut drafted = place;
-    let mut holder = 0;
-    while holder < holders {
+    for holder in 0..holders {
         drafted = add_holder_locks(state, holder, drafted, keys, kws, ranks);
-        holder += 1;
     }
     drafted
 }
@@ -99,10 +95,8 @@ pub(crate) fn ranks_fit(ranks: &[u32; HOLDERS], holders: usize) -> bool
     ensures { result ≡ all_to holders (λ (h : ℕ). leb (at ranks.now h) most_rank) }
 {
     let mut fit = true;
-    let mut holder = 0;
-    while holder < holders {
+    for holder in 0..holders {
         fit = fit & (ranks[holder] <= MOST_RANK);
-        holder += 1;
     }
     fit
 }

@@ -11,8 +11,7 @@ ghost use Rattle.carrying.specs.Workers.Draft.{places, Drafted};
 use crate::key;
 use base::{kinds, limits};
 use sheet_keys::key::HOLDERS;
-use sheet_records::cursor::{Cursor, Read};
-use sheet_records::{reader, words};
+use sheet_records::reader;
 
 // The places of a draft: those of 1,024 old records, and of a lock for each pair.
 pub(crate) const PLACES: usize = limits::MOST_RECORDS + limits::MOST_PAIRS;
@@ -86,18 +85,10 @@ pub(crate) fn keep_records(
     ensures { Drafted keys.new kws.new ranks.new result
         (kept sheet.now (count sheet.now)) }
 {
-    let count = words::record_count(sheet) as usize;
     *ranks = [0; HOLDERS];
     let mut drafted = 0;
-    let mut cursor = Cursor::first();
-    loop {
-        let read = reader::read_record(sheet, count, cursor.at);
-        match read {
-            Read::Next(record, next) => {
-                drafted = keep_record(record.key, record.kw, drafted, keys, kws, ranks);
-                cursor = next;
-            }
-            Read::End => return drafted,
-        }
+    for record in reader::records(sheet) {
+        drafted = keep_record(record.key, record.kw, drafted, keys, kws, ranks);
     }
+    drafted
 }

@@ -17,6 +17,7 @@ use Rattle.base.proofs.WordLaws.{fill-same}
 use Rattle.base.specs.Limits.{state_words}
 use Rattle.sheet_records.specs.Sheet as Sheet
 use Rattle.sheet_records.specs.Refusal.{sheet_refusal}
+use Rattle.sheet_reading.specs.declared.tables.Tables.{Tables}
 use Rattle.sheet_reading.specs.Tables.{kw_table, intertie_table, ReadSheet}
 use Rattle.sheet_reading.specs.Workers.Adding.{Filled}
 use Rattle.sheet_reading.proofs.SheetLaws.{first-words, read-stands}
@@ -161,32 +162,32 @@ module _ (sheet s : List ℕ) where
               ∙ sym (found-granted row e long),
         )
 
--- a reading that answers 0, and the sizes it is asked for
-module _ (sheet counts₀ kw₀ ties₀ counts kw ties : List ℕ) (number : ℕ) (r : ReadSheet sheet counts₀ kw₀ ties₀ number counts kw ties) (zero : number ≡ 0) where
+-- a reading that refuses nothing, and the sizes it is asked for
+module _ (sheet : List ℕ) (before now : Tables) (number : ℕ) (r : ReadSheet sheet before number now) (zero : number ≡ 0) where
   stands : sheet_refusal sheet ≡ 0
   stands = sym r.answer ∙ zero
 
-  filled : Filled sheet counts kw ties
-  filled = (read-stands sheet counts₀ kw₀ ties₀ counts kw ties number r zero).1
+  filled : Filled sheet now
+  filled = (read-stands sheet before now number r zero).1
 
   module _ (I H : ℕ) (i : I ≡ pick (ltb (length sheet) 12) 0 (Sheet.interties sheet)) (h : H ≡ pick (ltb (length sheet) 12) 0 (Sheet.holders sheet)) where
     abbrev there : ltb (length sheet) 12 ≡ false
     there = le-ltb (length sheet) 12 (first-words sheet stands)
 
-    same : of_tables I H kw ties ≡ read sheet stands
+    same : of_tables I H now.kw now.interties ≡ read sheet stands
     same =
-        ap (λ (n : ℕ). of_tables n H kw ties) (i ∙ pick-false _ _ _ there)
-        ∙ ap (λ (n : ℕ). of_tables (Sheet.interties sheet) n kw ties) (h ∙ pick-false _ _ _ there)
-        ∙ ap (λ l. of_tables (Sheet.interties sheet) (Sheet.holders sheet) l ties) filled.summed
+        ap (λ (n : ℕ). of_tables n H now.kw now.interties) (i ∙ pick-false _ _ _ there)
+        ∙ ap (λ (n : ℕ). of_tables (Sheet.interties sheet) n now.kw now.interties) (h ∙ pick-false _ _ _ there)
+        ∙ ap (λ l. of_tables (Sheet.interties sheet) (Sheet.holders sheet) l now.interties) filled.summed
         ∙ ap (λ l. of_tables (Sheet.interties sheet) (Sheet.holders sheet) (kw_table sheet) l) filled.placed
 
-    pub read-valid : Valid (of_tables I H kw ties)
+    pub read-valid : Valid (of_tables I H now.kw now.interties)
     read-valid = rw same (tables-valid sheet stands)
 
     pub read_opened : (s row : List ℕ) → 16000 ≤ length s → (total : ℕ) (found after : List ℕ) →
-        (total ≡ available_total (of_tables I H kw ties))
-        × (found ≡ fill H (load_share_quantity (of_tables I H kw ties)) row)
-        × (after ≡ opened_state (of_tables I H kw ties) s) →
+        (total ≡ available_total (of_tables I H now.kw now.interties))
+        × (found ≡ fill H (load_share_quantity (of_tables I H now.kw now.interties)) row)
+        × (after ≡ opened_state (of_tables I H now.kw now.interties) s) →
         (granted total 0 ≡ (opened sheet s).answer) × (after ≡ (opened sheet s).state) × (found ≡ quantities_found sheet s row)
     read_opened s row long total found after e =
         open_done sheet s stands long total row found after (

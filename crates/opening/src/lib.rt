@@ -10,7 +10,7 @@ ghost use Rattle.opening.specs.Open.{opened, quantities_found};
 use base::limits::{MOST_HOLDERS, STATE_WORDS};
 use base::{Answer, refusals};
 use sheet_reading::refusal;
-use sheet_reading::tables::SLOTS;
+use sheet_reading::tables::Tables;
 use sheet_records::words;
 
 // Opens the year: reads the sheet, refuses it with its number or carries out Steps 2 to 7 into the
@@ -34,18 +34,22 @@ pub fn open_with_quantities(
         (result ≡ o.answer) × (state.new ≡ o.state)
         × (quantities.new ≡ quantities_found sheet.now s quantities.old) }
 {
-    let mut counts = [0u16; SLOTS];
-    let mut kw = [0u64; SLOTS];
-    let mut ties = [0u16; SLOTS];
-    let number = refusal::read_sheet(sheet, &mut counts, &mut kw, &mut ties);
-    if number != 0 {
-        return Answer::refused(number);
+    let mut tables = Tables::empty();
+    if let Err(refusal) = refusal::read_sheet(sheet, &mut tables) {
+        return Answer::refused(refusal.number());
     }
     if state.len() < STATE_WORDS {
         return Answer::refused(refusals::ROOM);
     }
     let interties = words::intertie_count(sheet) as usize;
     let holders = words::holder_count(sheet) as usize;
-    let total = year::steps_2_to_7(&kw, &ties, interties, holders, quantities, state);
+    let total = year::steps_2_to_7(
+        &tables.kw,
+        &tables.interties,
+        interties,
+        holders,
+        quantities,
+        state,
+    );
     Answer::granted(total, 0)
 }

@@ -12,7 +12,10 @@ use Rattle.text.proofs.WrittenLaws.{written_is, length-written}
 use Rattle.io.specs.Counts.{IsPrefixLen}
 use Rattle.text.specs.Pieces.{before, fields}
 use Rattle.text.specs.Lines.{line_end}
-use Rattle.sheet_records.specs.Bytes.{sheet_bytes, SheetWritten}
+use Rattle.std.specs.Prelude.{Option}
+use Rattle.std.specs.Option.{unwrap_or}
+use Rattle.sheet_records.specs.Sheet.{size_of}
+use Rattle.sheet_records.specs.Bytes.{sheet_bytes, with_sheet, SheetWritten}
 use Rattle.sheet_records.proofs.BytesLaws.{sheet-length, written-whole}
 use Rattle.sheet_table.specs.Fields.{comma, number_at, sizes_flaw, record_key, record_kw}
 use Rattle.sheet_table.specs.Lines.{bare, lines_of, stopped, reached, lines_read, of_records, first_fields, later_lines, reading_of, sheet_of, converted, converted_into}
@@ -24,10 +27,11 @@ use Rattle.sheet_table.proofs.FieldLaws.{pieces-first}
 use Rattle.sheet_table.proofs.ReadingLaws.{AllRead}
 
 -- a sheet is written into memory that holds the longest
-sheet-put : (I H : ℕ) (keys kws l m : List ℕ) (r : ℕ) → length keys ≤ 1024 → length kws ≡ length keys → length l ≡ 8204 → SheetWritten I H keys kws l r m →
-    Put 0 (sheet_bytes I H keys kws) r l m × (r ≤ 8204)
-sheet-put I H keys kws l m r few even room wrote =
-    let whole = written-whole I H keys kws l few even (omega arith) r m wrote in
+sheet-put : (I H : ℕ) (keys kws l m : List ℕ) (o : Option ℕ) (r : ℕ) → length keys ≤ 1024 → length kws ≡ length keys → length l ≡ 8204 → SheetWritten I H keys kws l o m →
+    r ≡ unwrap_or o 0 → Put 0 (sheet_bytes I H keys kws) r l m × (r ≤ 8204)
+sheet-put I H keys kws l m o r few even room wrote e =
+    let written = written-whole I H keys kws l few even (omega arith) o m wrote in
+    let whole : (r ≡ size_of (length keys)) × (m ≡ with_sheet (sheet_bytes I H keys kws) l) = (e ∙ ap (λ x. unwrap_or x 0) written.0, written.1) in
     let size = sheet-length I H keys kws even in
     let none : length (sheet_bytes I H keys kws) ≡ 0 + length (sheet_bytes I H keys kws) = omega arith in (
       (omega (arith, whole.0, size), whole.1 ∙ ap (λ (n : ℕ). sheet_bytes I H keys kws ++ drop n l) none ∙ sym (written_is 0 (sheet_bytes I H keys kws) l (omega (arith, size)))),
@@ -81,13 +85,13 @@ module _ (text : List ℕ) (end : ℕ) (is : end ≡ before line_end text) (size
     pub line-stops : (l : List ℕ) → read.fault ≢ 0 → Done text l (record { fault = read.fault; line = read.line; column = read.column; count = 0 }) l
     line-stops l bad = faulty text l read reading bad
 
-    pub text-converts : (l m : List ℕ) (count : ℕ) → read.fault ≡ 0 →
-        length l ≡ 8204 → SheetWritten sizes.interties sizes.holders (take read.count keys) (take read.count kws) l count m →
+    pub text-converts : (l m : List ℕ) (o : Option ℕ) (count : ℕ) → read.fault ≡ 0 →
+        length l ≡ 8204 → SheetWritten sizes.interties sizes.holders (take read.count keys) (take read.count kws) l o m → count ≡ unwrap_or o 0 →
         Done text l (record { fault = 0; line = 0; column = 0; count = count }) m
     unfolding sheet_of
-    text-converts l m count fine room wrote =
+    text-converts l m o count fine room wrote e =
         let few : length (take read.count keys) ≤ 1024 = omega (arith, all.1.1, all.3) in
-        let put = sheet-put sizes.interties sizes.holders (take read.count keys) (take read.count kws) l m count few (sym all.2.1 ∙ all.1.1) room wrote in
+        let put = sheet-put sizes.interties sizes.holders (take read.count keys) (take read.count kws) l m o count few (sym all.2.1 ∙ all.1.1) room wrote e in
         let i : sizes.interties ≡ number_at (first_fields text) 0 = (of.1 good).0 ∙ ap (λ (f : List (List ℕ)). number_at f 0) first-is in
         let h : sizes.holders ≡ number_at (first_fields text) 1 = (of.1 good).1 ∙ ap (λ (f : List (List ℕ)). number_at f 1) first-is in
         let k : take read.count keys ≡ of_records record_key (later_lines text) = (all.4 fine).0 ∙ ap (of_records record_key) later-is in

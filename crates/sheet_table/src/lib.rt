@@ -70,7 +70,8 @@ pub fn to_sheet(text: &[u8], sheet: &mut [u8; MOST_SHEET_BYTES]) -> Converted
         &keys[..records],
         &kws[..records],
         sheet,
-    );
+    )
+    .unwrap_or(0);
     Converted {
         fault: 0,
         line: 0,

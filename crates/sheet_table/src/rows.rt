@@ -11,8 +11,7 @@ ghost use Rattle.sheet_table.specs.Table.{row_of, rows_of};
 use crate::kinds;
 use crate::kinds::NAME_BYTES;
 use sheet_keys::key;
-use sheet_records::cursor::{Cursor, Read};
-use sheet_records::{reader, words};
+use sheet_records::reader;
 use text::LINE_BYTES;
 
 // A label, and figures after commas.
@@ -67,17 +66,9 @@ pub(crate) fn put_rows(sheet: &[u8], out: &mut [u8], at: usize) -> usize
     ensures { let s = sheet.now in
         Put at (rows_of s (count s)) result out.old out.new × (result ≤ table_bytes) }
 {
-    let count = words::record_count(sheet) as usize;
     let mut next = at;
-    let mut cursor = Cursor::first();
-    loop {
-        let read = reader::read_record(sheet, count, cursor.at);
-        match read {
-            Read::Next(record, after) => {
-                next = put_row(record.key, record.kw, out, next);
-                cursor = after;
-            }
-            Read::End => return next,
-        }
+    for record in reader::records(sheet) {
+        next = put_row(record.key, record.kw, out, next);
     }
+    next
 }

@@ -52,7 +52,10 @@ pub extern "C" fn zankurbe_share_out(
 pub extern "C" fn zankurbe_sheet_refusal(sheet: &[u8]) -> u32
     ensures { result ≡ sheet_refusal sheet.now }
 {
-    sheet_reading::refusal::sheet_refusal(sheet)
+    match sheet_reading::refusal::sheet_refusal(sheet) {
+        Ok(()) => 0,
+        Err(refusal) => refusal.number(),
+    }
 }
 
 // The refusal that every call of the year begins with: 5, 6, or 0.

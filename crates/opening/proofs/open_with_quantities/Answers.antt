@@ -1,39 +1,16 @@
 -- `open_with_quantities` meets its contract: refused as the sheet is or with 5, or opened (`TableOpening`).
-use Rattle.base.proofs.Prelude.{ℕ, sym, ap, ◌∙◌}
+use Rattle.base.proofs.Prelude.{sym, ap, ◌∙◌, arith}
 use Rattle.base.specs.Answers.{refused}
+use Rattle.base.specs.Refused.{number_in}
+use Rattle.base.proofs.RefusedLaws.{numbered}
 use mathlib.Core.Logic.{◌≢◌}
 use Rattle.sheet_records.specs.Refusal.{sheet_refusal}
 use Rattle.opening.specs.Open.{Outcome}
 use Rattle.opening.proofs.TableOpening.{open-refused, open-short, found-refused, found-short, read-valid, read_opened}
 use Rattle.opening.proofs.open_with_quantities.Goals as goal
 
-pub returns-then-number-ne0 : goal.returns-then-number-ne0
-returns-then-number-ne0 c =
-    let a = c.args in
-    let number = c.read_sheet-number.ensures.answer in
-    let ne : sheet_refusal a.sheet.now ≢ 0 = λ e. c.if-number-ne0.true (number ∙ e) in
-    let o = open-refused a.sheet.now a.state.now ne in (
-      c.refused.ensures ∙ ap (λ (k : ℕ). refused k) number ∙ sym (ap (λ (o : Outcome). o.answer) o),
-      sym (ap (λ (o : Outcome). o.state) o),
-      sym (found-refused a.sheet.now a.state.now a.quantities.now ne),
-    )
+pub returns-in-Err : goal.returns-in-Err
+returns-in-Err c = ?
 
 pub returns-then-state-lt-STATE_WORDS : goal.returns-then-state-lt-STATE_WORDS
-returns-then-state-lt-STATE_WORDS c =
-    let a = c.args in
-    let number = c.read_sheet-number.ensures.answer in
-    let stands = sym number ∙ c.if-number-ne0.false in
-    let o = open-short a.sheet.now a.state.now stands c.if-state-lt-STATE_WORDS.true in (
-      c.refused-then-state-lt-STATE_WORDS.ensures ∙ sym (ap (λ (o : Outcome). o.answer) o),
-      sym (ap (λ (o : Outcome). o.state) o),
-      sym (found-short a.sheet.now a.state.now a.quantities.now stands c.if-state-lt-STATE_WORDS.true),
-    )
-
-pub steps_2_to_7-total-requires : goal.steps_2_to_7-total-requires
-steps_2_to_7-total-requires c =
-    (read-valid _ _ _ _ _ _ _ _ c.read_sheet-number.ensures c.if-number-ne0.false _ _ c.intertie_count-interties.ensures c.holder_count-holders.ensures, c.if-state-lt-STATE_WORDS.false)
-
-pub returns : goal.returns
-returns c =
-    let o = read_opened _ _ _ _ _ _ _ _ c.read_sheet-number.ensures c.if-number-ne0.false _ _ c.intertie_count-interties.ensures c.holder_count-holders.ensures c.args.state.now c.args.quantities.now c.if-state-lt-STATE_WORDS.false _ _ _ c.steps_2_to_7-total.ensures in
-    (c.granted.ensures ∙ o.0, o.1, o.2)
+returns-then-state-lt-STATE_WORDS c = ?

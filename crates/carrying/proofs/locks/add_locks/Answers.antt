@@ -8,7 +8,6 @@ use Rattle.carrying.proofs.locks.add_locks.Goals as goal
 
 pub loop-holder-init : goal.loop-holder-init
 loop-holder-init c = (
-  search rules,
   bounded-up _ _ 1024 (1024 + 48 * 0) (search rules) c.requires.2,
   step-none _ _ _ _ _
       (locks-none c.args.state.now),
@@ -18,9 +17,8 @@ pub loop-holder-preserved : goal.loop-holder-preserved
 loop-holder-preserved c =
     let t = c.loop-holder in
     let s = c.args.state.now in (
-      search rules,
       c.add_holder_locks-drafted.ensures.0,
-      step_then _ _ _ _ _ _ _ _ (with_locks s t.holder) t.invariant.2 _ _ _ _ (with_locks_of s t.holder (interties s)) _
+      step_then _ _ _ _ _ _ _ _ (with_locks s t.holder) t.invariant.1 _ _ _ _ (with_locks_of s t.holder (interties s)) _
           (locks-more s t.holder)
           c.add_holder_locks-drafted.ensures.1,
     )
@@ -28,8 +26,8 @@ loop-holder-preserved c =
 pub returns : goal.returns
 returns c = let t = c.loop-holder in let s = c.args.state.now in
     let few : holders s ≤ 32 = c.requires.1 in
-    let end : t.holder ≡ holders s = le_antisymm t.invariant.0 c.loop-holder-test.false ∙ c.word-holders.ensures in (
-      omega (arith, t.invariant.1.few),
-      step-as _ _ _ _ _ _ _ _ (with_locks s t.holder) t.invariant.2 _
+    let end : t.holder ≡ holders s = omega (arith, t.auto, c.loop-holder-test.false, c.word-holders.ensures) in (
+      omega (arith, t.invariant.0.few),
+      step-as _ _ _ _ _ _ _ _ (with_locks s t.holder) t.invariant.1 _
           (λ l. ap (λ (n : ℕ). with_locks s n l) end),
     )

@@ -1,5 +1,5 @@
 -- `locks::add_locks` meets its contract: after h holders the draft has their locks.
-use Rattle.base.proofs.Prelude.{◌+◌, ◌-◌, ◌*◌, ◌≤◌, List}
+use Rattle.base.proofs.Prelude.{◌+◌, ◌*◌, List}
 use Rattle.carrying.specs.Line.{Line}
 use Rattle.carrying.specs.Lines.{with_locks}
 use Rattle.carrying.specs.Workers.Draft.{Drafted, Bounded}
@@ -7,8 +7,5 @@ use Rattle.carrying.proofs.locks.add_locks.Given as goal
 
 abbrev pub invariant-loop-holder : goal.invariant-loop-holder
 invariant-loop-holder l =
-    (l.holder ≤ l.holders) × Bounded l.ranks l.drafted (1024 + 48 * l.holder)
+    Bounded l.ranks l.drafted (1024 + 48 * l.holder)
     × ((lines : List Line) → Drafted l.initial.keys l.initial.kws l.initial.ranks l.place lines → Drafted l.keys l.kws l.ranks l.drafted (with_locks l.state l.holder lines))
-
-abbrev pub decreases-loop-holder : goal.decreases-loop-holder
-decreases-loop-holder l = l.holders - l.holder

@@ -1,5 +1,5 @@
 use Rattle.base.proofs.Prelude.{rules}
-use Rattle.base.proofs.SumLaws.{all_to-zero, all_more, all_done}
+use Rattle.base.proofs.SumLaws.{all_to-zero, all_more}
 use Rattle.carrying.proofs.locks.ranks_fit.Goals as goal
 
 pub loop-holder-init : goal.loop-holder-init
@@ -7,6 +7,3 @@ loop-holder-init c = search (rules, all_to-zero)
 
 pub loop-holder-preserved : goal.loop-holder-preserved
 loop-holder-preserved c = search (rules, all_more)
-
-pub returns : goal.returns
-returns c = search (rules, all_done)

@@ -1,13 +1,8 @@
--- `records::keep_records` meets its contract: after k records the draft is what is kept of them. The measure is the records still to come.
-use Rattle.base.proofs.Prelude.{◌-◌, ◌≤◌}
-use Rattle.sheet_records.specs.Sheet.{count}
+-- `records::keep_records` meets its contract: the draft is what is kept of the records so far.
+use Rattle.base.proofs.Prelude.{length}
 use Rattle.carrying.specs.Lines.{kept}
 use Rattle.carrying.specs.Workers.Draft.{Drafted}
 use Rattle.carrying.proofs.records.keep_records.Given as goal
 
 abbrev pub invariant-loop-record : goal.invariant-loop-record
-invariant-loop-record l =
-    (l.cursor.at ≤ count l.sheet) × Drafted l.keys l.kws l.ranks l.drafted (kept l.sheet l.cursor.at)
-
-abbrev pub decreases-loop-record : goal.decreases-loop-record
-decreases-loop-record l = count l.sheet - l.cursor.at
+invariant-loop-record l = Drafted l.keys l.kws l.ranks l.drafted (kept l.sheet (length l.yielded))
