@@ -21,7 +21,11 @@ records_of s = pick (bad_length s) [] (map (record_at s) (range_with_len 0 (coun
 
 -- record k of the bytes of a sheet of n records
 abbrev pub record_of : List ℕ → (n k : ℕ) → Record
-record_of s n k = record { key = word_at s (sheet_header_bytes + word_size * k); kw = word_at s (sheet_header_bytes + word_size * n + word_size * k) }
+record_of s n k =
+    record {
+      key = word_at s (sheet_header_bytes + word_size * k);
+      kw = word_at s (sheet_header_bytes + word_size * n + word_size * k);
+    }
 
 -- the same, or none past the last; bytes of another length have none
 unfoldable pub read_of : List ℕ → (n k : ℕ) → Option Record

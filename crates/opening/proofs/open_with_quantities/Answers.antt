@@ -1,5 +1,5 @@
 -- `open_with_quantities` meets its contract: refused as the sheet is or with 5, or opened (`TableOpening`).
-use Rattle.base.proofs.Prelude.{sym, ap, ◌∙◌, arith}
+use Rattle.base.proofs.Prelude.{ℕ, sym, ap, ◌∙◌, arith}
 use Rattle.base.specs.Answers.{refused}
 use Rattle.base.specs.Refused.{number_in}
 use Rattle.base.proofs.RefusedLaws.{numbered}
@@ -10,7 +10,15 @@ use Rattle.opening.proofs.TableOpening.{open-refused, open-short, found-refused,
 use Rattle.opening.proofs.open_with_quantities.Goals as goal
 
 pub returns-in-Err : goal.returns-in-Err
-returns-in-Err c = ?
+returns-in-Err c =
+    let a = c.args in
+    let number = sym (ap number_in c.in-Err.is) ∙ c.read_sheet.ensures.answer in
+    let ne : sheet_refusal a.sheet.now ≢ 0 = λ e. let some = numbered c.in-Err.refusal in omega arith in
+    let o = open-refused a.sheet.now a.state.now ne in (
+      c.refused.ensures ∙ ap (λ (k : ℕ). refused k) (c.number.ensures ∙ number) ∙ sym (ap (λ (o : Outcome). o.answer) o),
+      sym (ap (λ (o : Outcome). o.state) o),
+      sym (found-refused a.sheet.now a.state.now a.quantities.now ne),
+    )
 
 pub returns-then-state-lt-STATE_WORDS : goal.returns-then-state-lt-STATE_WORDS
 returns-then-state-lt-STATE_WORDS c = ?

@@ -18,4 +18,4 @@ returns c =
     text-converts c.args.text.now _
     c.before-end.ensures.0 _ c.read_first-sizes.ensures
     c.if-sizes-ne0.false c.read_lines-read.new.keys c.read_lines-read.new.kws _
-    c.read_lines-read.ensures _ _ _ _ c.if-read-ne0.false (search rules) c.write_sheet.ensures ?
+    c.read_lines-read.ensures _ _ _ _ c.if-read-ne0.false (search rules) c.write_sheet.ensures c.unwrap_or-count.ensures
