@@ -21,4 +21,20 @@ returns-in-Err c =
     )
 
 pub returns-then-state-lt-STATE_WORDS : goal.returns-then-state-lt-STATE_WORDS
-returns-then-state-lt-STATE_WORDS c = ?
+returns-then-state-lt-STATE_WORDS c =
+    let a = c.args in
+    let stands = sym c.read_sheet.ensures.answer ∙ ap number_in c.in_default.is in
+    let o = open-short a.sheet.now a.state.now stands c.if-state-lt-STATE_WORDS.true in (
+      c.refused-then-state-lt-STATE_WORDS.ensures ∙ sym (ap (λ (o : Outcome). o.answer) o),
+      sym (ap (λ (o : Outcome). o.state) o),
+      sym (found-short a.sheet.now a.state.now a.quantities.now stands c.if-state-lt-STATE_WORDS.true),
+    )
+
+pub steps_2_to_7-total-requires : goal.steps_2_to_7-total-requires
+steps_2_to_7-total-requires c =
+    (read-valid _ _ _ _ c.read_sheet.ensures (ap number_in c.in_default.is) _ _ c.intertie_count-interties.ensures c.holder_count-holders.ensures, c.if-state-lt-STATE_WORDS.false)
+
+pub returns : goal.returns
+returns c =
+    let o = read_opened _ _ _ _ c.read_sheet.ensures (ap number_in c.in_default.is) _ _ c.intertie_count-interties.ensures c.holder_count-holders.ensures c.args.state.now c.args.quantities.now c.if-state-lt-STATE_WORDS.false _ _ _ c.steps_2_to_7-total.ensures in
+    (c.granted.ensures ∙ o.0, o.1, o.2)
