@@ -9,63 +9,24 @@ use borrow.Author.Tests.{ne_eqb}
 use Rattle.base.specs.Answers.{refused}
 use Rattle.base.specs.declared.Answer.{Answer}
 use Rattle.base.specs.declared.refusals.Refusal.{Refusal}
-use Rattle.base.specs.declared.refusals.Refusal.TheVariants.{SheetLength, Sizes, Records, AboveLimit, Room, NotOrderly, Stage, NoSuch, Range, TooMuch, Day, NoneLeft, Lock, Carry}
 use Rattle.base.specs.Refused.{number_of}
+use Rattle.base.proofs.RefusedLaws.{numbered}
 use Rattle.call.specs.Outcome.{Outcome, decided, or_else, whenever}
 
--- a function that tries the numbers in turn, return by return: it stops at the first that applies, and passes the others
-pub state-stops : (n state rest : ℕ) → n ≡ state → (n ≡ 0 → ⊥) → n ≡ or_else state rest
-state-stops n state rest e some = rw (← e, ne_eqb n 0 some)
-
-pub state-passes : (n state rest r : ℕ) → n ≡ state → n ≡ 0 → r ≡ rest → r ≡ or_else state rest
-state-passes n state rest r e z t = rw (← e, z) t
-
-pub test-stops : (b condition : Bool) (number rest : ℕ) → b ≡ condition → b ≡ true → T (ltb 0 number) → number ≡ or_else (whenever condition number) rest
-test-stops b condition number rest e t some =
-    rw (← e, t, ne_eqb number 0 (λ (z : number ≡ 0). omega (arith, ltb→lt 0 number some)))
-
-pub test-passes : (b condition : Bool) (number rest r : ℕ) → b ≡ condition → b ≡ false → r ≡ rest → r ≡ or_else (whenever condition number) rest
-test-passes b condition number rest r e f t = rw (← e, f) t
-
-pub last-stops : (b condition : Bool) (number : ℕ) → b ≡ condition → b ≡ true → number ≡ whenever condition number
-last-stops b condition number e t = rw (← e, t)
-
-pub last-passes : (b condition : Bool) (number : ℕ) → b ≡ condition → b ≡ false → 0 ≡ whenever condition number
-last-passes b condition number e f = rw (← e, f)
-
--- the rules by which `search` closes each return
-pub ruleset turns = (tt, state-stops, state-passes, test-stops, test-passes, last-stops, last-passes)
-
 -- a function that tries refusals in turn by `?`: it passes one that doesn't apply, and stops at the first that does
-pub number-pos : (refusal : Refusal) → 0 < number_of refusal
-number-pos SheetLength = omega arith
-number-pos Sizes = omega arith
-number-pos Records = omega arith
-number-pos AboveLimit = omega arith
-number-pos Room = omega arith
-number-pos NotOrderly = omega arith
-number-pos Stage = omega arith
-number-pos NoSuch = omega arith
-number-pos Range = omega arith
-number-pos TooMuch = omega arith
-number-pos Day = omega arith
-number-pos NoneLeft = omega arith
-number-pos Lock = omega arith
-number-pos Carry = omega arith
-
 pub passes : (first rest r : ℕ) → 0 ≡ first → r ≡ rest → r ≡ or_else first rest
 passes first rest r e t = rw (← e) t
 
 pub stops : (refusal : Refusal) (first rest : ℕ) → number_of refusal ≡ first → number_of refusal ≡ or_else first rest
 stops refusal first rest e =
-    rw (← e, ne_eqb (number_of refusal) 0 (λ (z : number_of refusal ≡ 0). omega (arith, number-pos refusal)))
+    rw (← e, ne_eqb (number_of refusal) 0 (λ (z : number_of refusal ≡ 0). omega (arith, numbered refusal)))
 
 -- what a call that tried its refusals so answers and leaves: it is refused, or done
 module _ (number : ℕ) (s : List ℕ) (done : Outcome) where
   pub is_refused : (refusal : Refusal) → number_of refusal ≡ number →
       (refused (number_of refusal) ≡ (decided number s done).answer) × (s ≡ (decided number s done).state)
   is_refused refusal e =
-      let some : number_of refusal ≡ 0 → ⊥ = λ z. omega (arith, number-pos refusal) in
+      let some : number_of refusal ≡ 0 → ⊥ = λ z. omega (arith, numbered refusal) in
       (rw (← e, ne_eqb (number_of refusal) 0 some) refl, rw (← e, ne_eqb (number_of refusal) 0 some) refl)
 
   pub is_done : (r : Answer) (t : List ℕ) → 0 ≡ number → r ≡ done.answer → t ≡ done.state →
@@ -96,14 +57,3 @@ decided-done number s done e = rw e
 
 pub decided-refused : (number : ℕ) (s : List ℕ) (done : Outcome) → (number ≡ 0 → ⊥) → decided number s done ≡ record { answer = refused number; state = s }
 decided-refused number s done some = rw (ne_eqb number 0 some)
-
--- the same of what a function answered and left, by the number that it found
-pub answers-refused : (number : ℕ) (s : List ℕ) (done : Outcome) (n : ℕ) (r : Answer) → n ≡ number → (n ≡ 0 → ⊥) → r ≡ refused n → (r ≡ (decided number s done).answer) × (s ≡ (decided number s done).state)
-answers-refused number s done n r e some told =
-    let o : decided number s done ≡ record { answer = refused n; state = s } = rw (← e) (decided-refused n s done some) in
-    (told ∙ sym (ap (λ (x : Outcome). x.answer) o), sym (ap (λ (x : Outcome). x.state) o))
-
-pub answers-done : (number : ℕ) (s : List ℕ) (done : Outcome) (n : ℕ) (r : Answer) (t : List ℕ) → n ≡ number → n ≡ 0 → r ≡ done.answer → t ≡ done.state → (r ≡ (decided number s done).answer) × (t ≡ (decided number s done).state)
-answers-done number s done n r t e z told left =
-    let o : decided number s done ≡ done = decided-done number s done (sym e ∙ z) in
-    (told ∙ sym (ap (λ (x : Outcome). x.answer) o), left ∙ sym (ap (λ (x : Outcome). x.state) o))

@@ -32,16 +32,6 @@ use Rattle.carrying.specs.Carry.{early_refusal, sizes_differ, does_not_fit, carr
 use Rattle.carrying.specs.Workers.Draft.{Drafted}
 use Rattle.carrying.proofs.FitLaws.{lines_fit, keys-same, kws-same, fit_same}
 
--- the early refusals, where the sheet is refused and where it stands
-module _ (sheet state : List ℕ) (n : ℕ) where
-  pub early_of_sheet : n ≡ sheet_refusal sheet → n ≢ 0 → n ≡ early_refusal sheet state
-  unfolding early_refusal
-  early_of_sheet e some = rw (← e, ne_eqb n 0 some) refl
-
-  pub early_of_state : sheet_refusal sheet ≡ 0 → n ≡ or_else (state_refusal state) (whenever (not (eqb (Layout.stage_of state) open_stage)) stage_refused) → n ≡ early_refusal sheet state
-  unfolding early_refusal
-  early_of_state zero e = rw zero e
-
 -- what refusals 1 to 7 let pass
 module _ (sheet state : List ℕ) (e : early_refusal sheet state ≡ 0) where
   pub sheet-stands : sheet_refusal sheet ≡ 0

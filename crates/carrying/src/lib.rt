@@ -7,6 +7,7 @@ mod records;
 
 ghost use Rattle.std.specs.Prelude.{◌≡◌, false, ◌||◌, not, ℕ, ◌≤◌, ltb, leb, length, take};
 ghost use Rattle.base.specs.Limits.{most_holders, most_records, most_rank};
+ghost use Rattle.base.specs.Refused.{number_in, answer_of};
 ghost use Rattle.base.specs.Sums.{all_to};
 ghost use Rattle.base.specs.Words.{at};
 ghost use Rattle.sheet_records.specs.Sheet.{size_of};
@@ -15,23 +16,21 @@ ghost use Rattle.carrying.specs.Lines.{next_lines};
 ghost use Rattle.carrying.specs.Carry.{early_refusal, sizes_differ, carried};
 ghost use Rattle.carrying.specs.Workers.Draft.{places, Drafted};
 
+use base::Granted;
 use base::limits::{MOST_RECORDS, RECORD_BYTES, SHEET_HEADER_BYTES};
-use base::{Answer, refusals};
+use base::refusals::Refusal;
 use records::PLACES;
 use sheet_keys::key::HOLDERS;
 use sheet_records::writing;
 use state::layout;
 
-// Refusals 1 to 4 of the sheet, 5 and 6 of the state, 7 where the stage is not 4; else 0.
-fn early_refusal(sheet: &[u8], state: &[u32]) -> u32
-    ensures { result ≡ early_refusal sheet.now state.now }
+// Refusals 1 to 4 of the sheet, 5 and 6 of the state, 7 where the stage is not 4.
+#[tactic(auto, using(call::proofs::LadderLaws::passes, call::proofs::LadderLaws::stops), unfolding(crate::specs::Carry::early_refusal))]
+fn check_early(sheet: &[u8], state: &[u32]) -> Result<(), Refusal>
+    ensures { number_in result ≡ early_refusal sheet.now state.now }
 {
-    let of_stage = call::whenever(call::not_open(state), refusals::STAGE);
-    let of_state = call::or_else(orderly::state_refusal(state), of_stage);
-    match sheet_reading::refusal::sheet_refusal(sheet) {
-        Err(refusal) => refusal.number(),
-        Ok(()) => of_state,
-    }
+    sheet_reading::refusal::sheet_refusal(sheet)?;
+    call::check_open(state)
 }
 
 // Whether the sheet's sizes differ from the state's.
@@ -97,10 +96,10 @@ fn write_draft(
 }
 
 // Carries where refusals 1 to 7 let pass and the sizes are the same.
-fn carry_on(sheet: &[u8], state: &[u32], output: &mut [u8]) -> Answer
+fn carry_on(sheet: &[u8], state: &[u32], output: &mut [u8]) -> Result<Granted, Refusal>
     requires { (early_refusal sheet.now state.now ≡ 0) × (sizes_differ sheet.now state.now ≡ false) }
     ensures { let o = carried sheet.now state.now output.old in
-        (result ≡ o.answer) × (output.new ≡ o.output) }
+        (answer_of result ≡ o.answer) × (output.new ≡ o.output) }
 {
     let interties = state::word(state, layout::SIZES, layout::INTERTIES);
     let holders = state::word(state, layout::SIZES, layout::HOLDERS);
@@ -109,23 +108,20 @@ fn carry_on(sheet: &[u8], state: &[u32], output: &mut [u8]) -> Answer
     let mut ranks = [0u32; HOLDERS];
     let records = draft(sheet, state, &mut keys, &mut kws, &mut ranks);
     if does_not_fit(&ranks, holders as usize, records, output.len()) {
-        return Answer::refused(refusals::CARRY);
+        return Err(Refusal::Carry);
     }
     write_draft(interties, holders, records, &keys, &kws, output);
-    Answer::granted(0, 0)
+    Ok(Granted { kw: 0, passes: 0 })
 }
 
 // Writes next year's sheet into the output, or refuses it and leaves the output as it was.
-pub fn carry(sheet: &[u8], state: &[u32], output: &mut [u8]) -> Answer
+pub fn carry(sheet: &[u8], state: &[u32], output: &mut [u8]) -> Result<Granted, Refusal>
     ensures { let o = carried sheet.now state.now output.old in
-        (result ≡ o.answer) × (output.new ≡ o.output) }
+        (answer_of result ≡ o.answer) × (output.new ≡ o.output) }
 {
-    let number = early_refusal(sheet, state);
-    if number != 0 {
-        return Answer::refused(number);
-    }
+    check_early(sheet, state)?;
     if sizes_differ(sheet, state) {
-        return Answer::refused(refusals::CARRY);
+        return Err(Refusal::Carry);
     }
     carry_on(sheet, state, output)
 }

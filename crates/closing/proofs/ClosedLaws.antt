@@ -15,7 +15,7 @@ use Rattle.base.specs.Answers.{refused, granted}
 use Rattle.base.specs.declared.Answer.{Answer}
 use Rattle.base.specs.declared.refusals.Refusal.{Refusal}
 use Rattle.base.specs.Refused.{number_of}
-use Rattle.call.proofs.LadderLaws.{number-pos}
+use Rattle.base.proofs.RefusedLaws.{numbered}
 use Rattle.base.proofs.ChoiceLaws.{and_right}
 use Rattle.base.proofs.SumLaws.{sum_to-same}
 use Rattle.base.proofs.WordLaws.{fill-same, at_fill, length-fill}
@@ -130,7 +130,7 @@ pub is_refused : (s grants : List ℕ) (refusal : Refusal) → number_of refusal
     (refused (number_of refusal) ≡ (close s grants).answer) × (s ≡ (close s grants).state) × (grants ≡ (close s grants).grants)
 is_refused s grants refusal e =
     let n = number_of refusal in
-    let some : n ≡ 0 → ⊥ = λ z. omega (arith, number-pos refusal) in
+    let some : n ≡ 0 → ⊥ = λ z. omega (arith, numbered refusal) in
     let o : close s grants ≡ record { answer = refused n; state = s; grants = grants } = rw e (close-refused s grants (rw e at some)) in
     (sym (ap (λ (x : Closed). x.answer) o), sym (ap (λ (x : Closed). x.state) o), sym (ap (λ (x : Closed). x.grants) o))
 

@@ -24,9 +24,8 @@ pub(super) fn write_next<R: Env + Files>(
     state: &[u32; STATE_WORDS],
 ) {
     let mut next = [0u8; MOST_SHEET_BYTES];
-    let carried = carrying::carry(sheet, state, &mut next);
-    if carried.refusal != 0 {
-        faults::not_carried(rt, stderr, carried.refusal);
+    if let Err(refusal) = carrying::carry(sheet, state, &mut next) {
+        faults::not_carried(rt, stderr, refusal.number());
         return;
     }
     let count = io::count(sheet_length(&next) as isize, &next);

@@ -188,5 +188,5 @@ pub extern "C" fn zankurbe_carry(sheet: &[u8], state: &[u32], output: &mut [u8])
     ensures { let next = carried sheet.now state.now output.old in
         (result ≡ next.answer) × (output.new ≡ next.output) }
 {
-    carrying::carry(sheet, state, output)
+    Answer::from(carrying::carry(sheet, state, output))
 }

@@ -1,5 +1,5 @@
 -- `carry_on` meets its contract: refused with 14, or written (`CarryLaws`).
-use Rattle.base.proofs.Prelude.{arith}
+use Rattle.base.proofs.Prelude.{arith, refl}
 use Rattle.carrying.proofs.CarryLaws.{state-stands, answers-refused, draft-unfit, draft-few, draft-room, draft-written}
 use Rattle.carrying.proofs.carry_on.Goals as goal
 
@@ -11,7 +11,7 @@ does_not_fit-requires c =
 pub returns-then-does_not_fit : goal.returns-then-does_not_fit
 returns-then-does_not_fit c = let a = c.args in
     answers-refused a.sheet.now a.state.now a.output.now 14 (omega arith)
-    (draft-unfit a.sheet.now a.state.now a.output.now c.requires.0 c.requires.1 _ _ _ _ c.draft-records.ensures.1 _ c.word-holders.ensures _ c.does_not_fit.ensures c.if-does_not_fit.true) _ c.refused.ensures
+    (draft-unfit a.sheet.now a.state.now a.output.now c.requires.0 c.requires.1 _ _ _ _ c.draft-records.ensures.1 _ c.word-holders.ensures _ c.does_not_fit.ensures c.if-does_not_fit.true) _ refl
 
 pub write_draft-requires : goal.write_draft-requires
 write_draft-requires c = let a = c.args in (
@@ -27,4 +27,4 @@ returns c =
     draft-written a.sheet.now a.state.now a.output.now p.0 p.1 _ _ _ _ c.draft-records.ensures.1
     _ c.word-holders.ensures _ c.does_not_fit.ensures _ _ _
     c.if-does_not_fit.false (λ i. (c.shared_slice_known-1.given i).fits)
-    c.word-interties.ensures c.write_draft.ensures c.granted.ensures
+    c.word-interties.ensures c.write_draft.ensures refl

@@ -1,5 +1,4 @@
-use Rattle.base.proofs.Prelude.{ℕ, ◌+◌, ◌*◌, ◌≤◌, ◌≡◌, ap, ◌∙◌, arith, rules}
-use native.Mathlib.Nat.{le_antisymm}
+use Rattle.base.proofs.Prelude.{ℕ, ◌+◌, ◌*◌, ◌≤◌, ◌≡◌, ap, arith, rules}
 use Rattle.state.specs.Layout.{interties}
 use Rattle.carrying.specs.Lines.{with_lock, with_locks_of}
 use Rattle.carrying.proofs.LineLaws.{locks-of-none, locks-of-more}

@@ -1,5 +1,4 @@
-use Rattle.base.proofs.Prelude.{ℕ, ◌+◌, ◌*◌, ◌≤◌, ◌≡◌, ap, ◌∙◌, arith, rules}
-use native.Mathlib.Nat.{le_antisymm}
+use Rattle.base.proofs.Prelude.{ℕ, ◌+◌, ◌*◌, ◌≤◌, ◌≡◌, ap, arith, rules}
 use Rattle.state.specs.Layout.{interties, holders}
 use Rattle.carrying.specs.Lines.{with_locks_of, with_locks}
 use Rattle.carrying.proofs.LineLaws.{locks-none, locks-more}
