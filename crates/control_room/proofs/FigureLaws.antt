@@ -1,6 +1,6 @@
 -- What the tests before the figures say, and the figures from the numbers read.
 use Prim.Native.Nat.{ℕ, ◌≤◌}
-use mathlib.Core.Path.{◌≡◌, sym, ◌∙◌}
+use mathlib.Core.Path.{◌≡◌, refl, sym, ◌∙◌}
 use mathlib.Core.Bool.{Bool, true, false, ◌&&◌}
 use mathlib.Core.List.{List}
 use lib.Dec.{leb, ltb}
@@ -19,16 +19,23 @@ few-holders s i e t =
     leb-true (holders s) 32
     (and_right (leb (interties s) 48) (leb (holders s) 32) (and_left (leb (interties s) 48 && leb (holders s) 32) (ltb i (interties s)) (sym e ∙ t)))
 
--- no such intertie, no such holder
-pub no-intertie : (s : List ℕ) (i : ℕ) {b : Bool} → b ≡ is_intertie s i → b ≡ false →
-    ◌≡◌ {A = IntertieFigures} (record { limit = 0; outside = 0; reserved = 0; placed = 0; taken = 0; unassigned = 0 }) (intertie_figures s i)
+-- no such intertie, no such holder: the figures that are all 0
+pub no-intertie : (s : List ℕ) (i : ℕ) (f : IntertieFigures) {b : Bool} → b ≡ is_intertie s i → b ≡ false →
+    f.limit ≡ 0 → f.outside ≡ 0 → f.reserved ≡ 0 → f.placed ≡ 0 → f.taken ≡ 0 → f.unassigned ≡ 0 → f ≡ intertie_figures s i
 unfolding intertie_figures
-no-intertie s i e f = sym (pick-false (is_intertie s i) _ _ (sym e ∙ f))
+no-intertie s i f e n l o r p t u =
+    let none : ◌≡◌ {A = IntertieFigures} (record { limit = f.limit; outside = f.outside; reserved = f.reserved; placed = f.placed; taken = f.taken; unassigned = f.unassigned })
+    (record { limit = 0; outside = 0; reserved = 0; placed = 0; taken = 0; unassigned = 0 }) = rw (l, o, r, p, t, u) refl in
+    none ∙ sym (pick-false (is_intertie s i) _ _ (sym e ∙ n))
 
-pub no-holder : (s calls answers : List ℕ) (count h : ℕ) {b : Bool} → b ≡ is_holder s h → b ≡ false →
-    ◌≡◌ {A = HolderFigures} (record { step_5_share = 0; bought = 0; sold = 0; placed = 0; unplaced = 0; reserved = 0; locked = 0 }) (holder_figures s calls answers count h)
+pub no-holder : (s calls answers : List ℕ) (count h : ℕ) (f : HolderFigures) {b : Bool} → b ≡ is_holder s h → b ≡ false →
+    f.step_5_share ≡ 0 → f.bought ≡ 0 → f.sold ≡ 0 → f.placed ≡ 0 → f.unplaced ≡ 0 → f.reserved ≡ 0 → f.locked ≡ 0 →
+    f ≡ holder_figures s calls answers count h
 unfolding holder_figures
-no-holder s calls answers count h e f = sym (pick-false (is_holder s h) _ _ (sym e ∙ f))
+no-holder s calls answers count h f e n a b' c p u r k =
+    let none : ◌≡◌ {A = HolderFigures} (record { step_5_share = f.step_5_share; bought = f.bought; sold = f.sold; placed = f.placed; unplaced = f.unplaced; reserved = f.reserved; locked = f.locked })
+    (record { step_5_share = 0; bought = 0; sold = 0; placed = 0; unplaced = 0; reserved = 0; locked = 0 }) = rw (a, b', c, p, u, r, k) refl in
+    none ∙ sym (pick-false (is_holder s h) _ _ (sym e ∙ n))
 
 -- the numbers read are the figures
 pub intertie-read : (s : List ℕ) (i : ℕ) {b : Bool} {limit outside reserved placed taken unassigned : ℕ} → b ≡ is_intertie s i → b ≡ true →

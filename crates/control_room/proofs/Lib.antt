@@ -1,1 +1,3 @@
+pub mod ChunkLaws
+pub mod TradeLaws
 pub mod FigureLaws

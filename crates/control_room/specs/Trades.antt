@@ -5,6 +5,8 @@ use Rattle.base.specs.Encoding.{call_words, answer_words, trade_call}
 use Rattle.base.specs.Sums.{sum_to}
 use Rattle.base.specs.Words.{at}
 use Rattle.journal.specs.Sizes.{most_calls}
+use Rattle.control_room.specs.declared.trades.Party.{Party}
+use Rattle.control_room.specs.declared.trades.Party.TheVariants.{Seller, Buyer}
 
 -- the words of a trade: its kind is the first
 abbrev pub seller_word : ℕ
@@ -15,6 +17,11 @@ buyer_word = 2
 
 abbrev pub kw_word : ℕ
 kw_word = 4
+
+-- the word of a party
+abbrev pub word_of : Party → ℕ
+word_of Seller = seller_word
+word_of Buyer = buyer_word
 
 -- word k of call n
 abbrev pub call_word : List ℕ → ℕ → ℕ → ℕ
@@ -29,6 +36,11 @@ granted_trade calls answers n = eqb (at calls (call_words * n)) trade_call && eq
 abbrev pub traded_in : List ℕ → List ℕ → ℕ → ℕ → ℕ → ℕ
 traded_in calls answers party h n =
     pick (granted_trade calls answers n && eqb h (call_word calls n party)) (call_word calls n kw_word) 0
+
+-- the same of a call and its answer by themselves
+abbrev pub traded_by : List ℕ → List ℕ → ℕ → ℕ → ℕ
+traded_by call answer party h =
+    pick ((eqb (at call 0) trade_call && eqb (at answer 0) 0) && eqb h (at call party)) (at call kw_word) 0
 
 -- what holder h bought and sold by the first `count` calls, as far as there are words
 unfoldable pub bought : List ℕ → List ℕ → ℕ → ℕ → ℕ

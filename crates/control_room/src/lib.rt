@@ -11,10 +11,11 @@ ghost use Rattle.control_room.specs.Figures.{intertie_figures, holder_figures, i
 use base::limits::STATE_WORDS;
 use journal::sizes::{ANSWERS_WORDS, CALLS_WORDS};
 use state::layout;
+use trades::Party;
 
 // The figures of an intertie, in kW: reserved is E, P and N of all holders on it, placed and taken are
 // those of all holders.
-#[derive(Clone, Copy)]
+#[derive(Clone, Copy, Default)]
 pub struct IntertieFigures {
     pub limit: u64,
     pub outside: u64,
@@ -26,7 +27,7 @@ pub struct IntertieFigures {
 
 // The figures of a holder, in kW: bought and sold by the granted trades of the list, placed and locked
 // over all interties.
-#[derive(Clone, Copy)]
+#[derive(Clone, Copy, Default)]
 pub struct HolderFigures {
     pub step_5_share: u64,
     pub bought: u64,
@@ -55,23 +56,16 @@ fn is_holder(state: &[u32; STATE_WORDS], holder: u32) -> bool
 pub fn intertie_figures(state: &[u32; STATE_WORDS], intertie: u32) -> IntertieFigures
     ensures { result ≡ intertie_figures state.now intertie }
 {
-    if is_intertie(state, intertie) {
-        return IntertieFigures {
-            limit: sums::field_word(state, layout::LIMIT, intertie),
-            outside: sums::field_word(state, layout::OUTSIDE, intertie),
-            reserved: sums::reserved_on(state, intertie),
-            placed: sums::on_intertie(state, layout::PLACED, intertie),
-            taken: sums::on_intertie(state, layout::TAKEN, intertie),
-            unassigned: sums::field_word(state, layout::UNASSIGNED, intertie),
-        };
+    if !is_intertie(state, intertie) {
+        return IntertieFigures::default();
     }
     IntertieFigures {
-        limit: 0,
-        outside: 0,
-        reserved: 0,
-        placed: 0,
-        taken: 0,
-        unassigned: 0,
+        limit: sums::field_word(state, layout::LIMIT, intertie),
+        outside: sums::field_word(state, layout::OUTSIDE, intertie),
+        reserved: sums::reserved_on(state, intertie),
+        placed: sums::on_intertie(state, layout::PLACED, intertie),
+        taken: sums::on_intertie(state, layout::TAKEN, intertie),
+        unassigned: sums::field_word(state, layout::UNASSIGNED, intertie),
     }
 }
 
@@ -86,24 +80,16 @@ pub fn holder_figures(
 ) -> HolderFigures
     ensures { result ≡ holder_figures state.now calls.now answers.now count holder }
 {
-    if is_holder(state, holder) {
-        return HolderFigures {
-            step_5_share: sums::field_word(state, layout::STEP_5_SHARE, holder),
-            bought: trades::bought(calls, answers, count, holder),
-            sold: trades::sold(calls, answers, count, holder),
-            placed: state::of_holder(state, layout::PLACED, holder),
-            unplaced: sums::field_word(state, layout::UNPLACED, holder),
-            reserved: sums::field_word(state, layout::RESERVED, holder),
-            locked: state::of_holder(state, layout::LOCKED, holder),
-        };
+    if !is_holder(state, holder) {
+        return HolderFigures::default();
     }
     HolderFigures {
-        step_5_share: 0,
-        bought: 0,
-        sold: 0,
-        placed: 0,
-        unplaced: 0,
-        reserved: 0,
-        locked: 0,
+        step_5_share: sums::field_word(state, layout::STEP_5_SHARE, holder),
+        bought: trades::traded(calls, answers, count, Party::Buyer, holder),
+        sold: trades::traded(calls, answers, count, Party::Seller, holder),
+        placed: state::of_holder(state, layout::PLACED, holder),
+        unplaced: sums::field_word(state, layout::UNPLACED, holder),
+        reserved: sums::field_word(state, layout::RESERVED, holder),
+        locked: state::of_holder(state, layout::LOCKED, holder),
     }
 }

@@ -1,90 +1,62 @@
 // The granted trades of a list: what a holder bought and sold by them.
-ghost use Rattle.std.specs.Prelude.{◌≡◌, ℕ, ◌+◌, ◌*◌, ◌≤◌, ◌<◌, min};
+ghost use Rattle.std.specs.Prelude.{◌≡◌, ◌+◌, ◌*◌, ◌<◌, List, min, slice_index_or};
 ghost use Rattle.base.specs.Sums.{sum_to};
-ghost use Rattle.base.specs.Encoding.{call_words};
+ghost use Rattle.base.specs.Words.{at};
 ghost use Rattle.journal.specs.Sizes.{most_calls};
-ghost use Rattle.control_room.specs.Trades.{traded_in, bought, sold};
+ghost use Rattle.control_room.specs.Trades.{word_of, traded_by, traded_in};
 
-use base::encoding::{ANSWER_WORDS, CALL_WORDS, TRADE};
+use base::encoding::{ANSWER_WORDS, CALL_WORDS, CallKind};
 use journal::sizes::{ANSWERS_WORDS, CALLS_WORDS, MOST_CALLS};
 
-// The words of a trade: its kind is the first.
-const SELLER: usize = 1;
+// The parties of a trade, each by the word that names it. The kind is word 0.
+#[derive(Clone, Copy)]
+pub(super) enum Party {
+    Seller = 1,
+    Buyer = 2,
+}
 
-const BUYER: usize = 2;
+impl Party {
+    fn word(self) -> usize
+        ensures { result ≡ word_of self }
+    {
+        self as usize
+    }
+}
 
+// The word of a trade's kW.
 const KW: usize = 4;
 
-// The kW of call n where it is a granted trade with the holder as the party, else 0.
+// The kW of a call where it is a granted trade with the holder as the party, else 0.
 fn traded_in(
-    calls: &[u32; CALLS_WORDS],
-    answers: &[u64; ANSWERS_WORDS],
-    n: usize,
-    party: usize,
+    call: &[u32; CALL_WORDS],
+    answer: &[u64; ANSWER_WORDS],
+    party: Party,
     holder: u32,
 ) -> u32
-    requires { (n < most_calls) × (party < call_words) }
-    ensures { result ≡ traded_in calls.now answers.now party holder n }
+    ensures { result ≡ traded_by call.now answer.now (word_of party) holder }
 {
-    let first = CALL_WORDS * n;
-    let granted = answers[ANSWER_WORDS * n] == 0;
-    if (calls[first] == TRADE) & granted & (holder == calls[first + party]) {
-        return calls[first + KW];
+    let granted = answer[0] == 0;
+    if (call[0] == CallKind::Trade.number()) & granted & (holder == call[party.word()]) {
+        return call[KW];
     }
     0
 }
 
-// How many calls there are words for, and no more than there are calls.
-fn within(count: usize) -> usize
-    ensures { (result ≡ min count most_calls) × (result ≤ most_calls) }
-{
-    if count < MOST_CALLS {
-        return count;
-    }
-    MOST_CALLS
-}
-
-// The kW of the first calls that are granted trades with the holder as the party.
-fn traded(
+// The kW of the first calls that are granted trades with the holder as the party, as far as there are words for calls.
+pub(super) fn traded(
     calls: &[u32; CALLS_WORDS],
     answers: &[u64; ANSWERS_WORDS],
     count: usize,
-    party: usize,
+    party: Party,
     holder: u32,
 ) -> u64
-    requires { party < call_words }
-    ensures { result ≡ sum_to (min count most_calls) (traded_in calls.now answers.now party holder) }
+    ensures { result ≡ sum_to (min count most_calls) (traded_in calls.now answers.now (word_of party) holder) }
 {
-    let end = within(count);
+    let (calls, _) = calls.as_chunks::<CALL_WORDS>();
+    let (answers, _) = answers.as_chunks::<ANSWER_WORDS>();
     let mut sum: u64 = 0;
-    let mut n = 0;
-    while n < end {
-        sum += traded_in(calls, answers, n, party, holder) as u64;
-        n += 1;
+    for n in 0..count.min(MOST_CALLS) {
+        sum += traded_in(&calls[n], &answers[n], party, holder) as u64;
     }
     sum
-}
-
-// What a holder bought by the granted trades among the first calls.
-pub(super) fn bought(
-    calls: &[u32; CALLS_WORDS],
-    answers: &[u64; ANSWERS_WORDS],
-    count: usize,
-    holder: u32,
-) -> u64
-    ensures { result ≡ bought calls.now answers.now count holder }
-{
-    traded(calls, answers, count, BUYER, holder)
-}
-
-// What a holder sold by them.
-pub(super) fn sold(
-    calls: &[u32; CALLS_WORDS],
-    answers: &[u64; ANSWERS_WORDS],
-    count: usize,
-    holder: u32,
-) -> u64
-    ensures { result ≡ sold calls.now answers.now count holder }
-{
-    traded(calls, answers, count, SELLER, holder)
 }

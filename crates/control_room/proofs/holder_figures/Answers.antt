@@ -1,10 +1,13 @@
 -- `holder_figures` meets its contract: the numbers read are the figures (`FigureLaws`).
+use Rattle.base.proofs.Prelude.{rules}
+use Rattle.control_room.specs.Trades.{bought, sold}
 use Rattle.control_room.proofs.FigureLaws.{no-holder, holder-read}
 use Rattle.control_room.proofs.holder_figures.Goals as goal
 
-pub returns-then-is_holder : goal.returns-then-is_holder
-returns-then-is_holder c =
-    holder-read _ _ _ _ _ c.is_holder.ensures c.if-is_holder.true c.field_word.ensures c.bought.ensures c.sold.ensures c.of_holder.ensures c.field_word-then-is_holder.ensures c.field_word-then-is_holder-2.ensures c.of_holder-then-is_holder.ensures
+pub returns-then-not-is_holder : goal.returns-then-not-is_holder
+returns-then-not-is_holder c = search (rules, no-holder)
 
 pub returns : goal.returns
-returns c = no-holder _ _ _ _ _ c.is_holder.ensures c.if-is_holder.false
+unfolding bought sold
+returns c =
+    holder-read _ _ _ _ _ c.is_holder.ensures c.if-not-is_holder.false c.field_word.ensures c.traded.ensures c.traded-2.ensures c.of_holder.ensures c.field_word-2.ensures c.field_word-3.ensures c.of_holder-2.ensures

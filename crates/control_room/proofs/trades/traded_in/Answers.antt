@@ -1,10 +1,9 @@
 -- `traded_in` meets its contract: the test is the definition's.
-use Rattle.base.proofs.Prelude.{sym}
-use Rattle.base.proofs.ChoiceLaws.{pick_true, pick-false}
+use Rattle.control_room.proofs.TradeLaws.{traded-yes, traded-no}
 use Rattle.control_room.proofs.trades.traded_in.Goals as goal
 
-pub returns-then-calls-first : goal.returns-then-calls-first
-returns-then-calls-first c = sym (pick_true _ _ _ c.if-calls-first.true)
+pub returns-then-call-number : goal.returns-then-call-number
+returns-then-call-number c = let a = c.args in traded-yes a.call.now a.answer.now _ a.holder _ _ c.number.ensures c.word.ensures c.if-call-number.true
 
 pub returns : goal.returns
-returns c = sym (pick-false _ _ _ c.if-calls-first.false)
+returns c = let a = c.args in traded-no a.call.now a.answer.now _ a.holder _ _ c.number.ensures c.word.ensures c.if-call-number.false
