@@ -25,7 +25,7 @@ use Rattle.opening.proofs.OpenedLaws.{Opened, opened-state}
 use Rattle.opening.proofs.TableOpening.{zero_or, open-refused, open-granted, found-granted}
 use Rattle.opening.proofs.WriteLaws.{row_same}
 use Rattle.posting.specs.Post.{pre_ra_on, new_use_on, intertie_lines, holder_lines, Posted, posted}
-use Rattle.posting.specs.Workers.Lines.{Readable, field_on, interties_from, holders_from}
+use Rattle.posting.specs.Workers.Lines.{field_on, interties_from, holders_from}
 
 -- a state t that opening with y left
 module _ (y : Inputs) (t l : List ℕ) (o : Opened y t) (I H : ℕ) (i-is : I ≡ y.interties) (h-is : H ≡ y.holders) where
@@ -113,10 +113,10 @@ module _ (sheet after quantities : List ℕ) (answer : Answer) (r : answer ≡ (
           let v = valid-sheet sheet stands in
           rw h-is v.holders-most
 
-      pub post-readable : (l : List ℕ) → length after ≡ 16000 → length l ≡ 480 → Readable I H after l
-      post-readable l long room =
+      pub post-interties : I ≤ 48
+      post-interties =
           let v = valid-sheet sheet stands in
-          record { long = long; few = rw i-is v.interties-most; low = rw h-is v.holders-most; room = room }
+          rw i-is v.interties-most
 
       pub post-lines : (l m n : List ℕ) → m ≡ interties_from I H after l → n ≡ holders_from H after quantities m →
           (answer ≡ (posted sheet l).answer) × (n ≡ (posted sheet l).lines)

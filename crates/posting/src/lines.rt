@@ -1,77 +1,76 @@
 // The numbers of the posting, read from an opened state.
-ghost use Rattle.std.specs.Prelude.{◌≡◌, ℕ, ◌+◌, ◌*◌, ◌≤◌, ◌<◌, ◌^◌, length};
-ghost use Rattle.base.specs.Limits.{most_interties, most_holders, state_words};
+ghost use Rattle.std.specs.Prelude.{◌≡◌, ℕ, ◌+◌, ◌*◌, ◌≤◌, ◌<◌};
+ghost use Rattle.base.specs.Limits.{most_interties, most_holders};
 ghost use Rattle.base.specs.Words.{at};
 ghost use Rattle.state.specs.Layout.{whole_rows, last_row};
 ghost use Rattle.state_rows.specs.Rows.{fill_row};
-ghost use Rattle.posting.specs.Rows.{posting_rows, posting_numbers, quantity_line};
-ghost use Rattle.posting.specs.Workers.Lines.{Readable, row_word, field_on, interties_from, holders_from};
+ghost use Rattle.posting.specs.Rows.{posting_rows, quantity_line};
+ghost use Rattle.posting.specs.Workers.Lines.{row_word, field_on, interties_from, holders_from};
 
 use super::rows;
-use base::limits::MOST_HOLDERS;
+use super::rows::NUMBERS;
+use base::limits::{MOST_HOLDERS, STATE_WORDS};
 use state::layout;
 use state::layout::ROW_WORDS;
 
-// A word as a number.
-fn wide(word: u32) -> u64
-    ensures { (result ≡ word) × (result < 2 ^ 32) }
-{
-    word as u64
-}
-
 // Copies the first words of a row of the state.
-fn copy_row(state: &[u32], row: usize, count: usize, lines: &mut [u64], to: usize)
-    requires { (length state.now ≡ state_words) × (row < whole_rows) × (count ≤ most_interties) × (to < posting_rows)
-        × (length lines.old ≡ posting_numbers) }
+fn copy_row(
+    state: &[u32; STATE_WORDS],
+    row: usize,
+    count: usize,
+    lines: &mut [u64; NUMBERS],
+    to: usize,
+)
+    requires { (row < whole_rows) × (count ≤ most_interties) × (to < posting_rows) }
     ensures { lines.new ≡ fill_row to count (row_word state.now row) lines.old }
 {
     let from = ROW_WORDS * row;
     let first = ROW_WORDS * to;
-    let mut c = 0;
-    while c < count {
-        lines[first + c] = wide(state[from + c]);
-        c += 1;
+    for c in 0..count {
+        lines[first + c] = state[from + c] as u64;
     }
 }
 
 // A field of the pairs on an intertie, summed over the holders.
-fn field_on(state: &[u32], field: usize, holders: usize, intertie: usize) -> u64
-    requires { (length state.now ≡ state_words) × (field ≤ last_row) × (holders ≤ most_holders) × (intertie < most_interties) }
+fn field_on(state: &[u32; STATE_WORDS], field: usize, holders: usize, intertie: usize) -> u64
+    requires { (field ≤ last_row) × (holders ≤ most_holders) × (intertie < most_interties) }
     ensures { result ≡ field_on state.now field holders intertie }
 {
+    let words: &[u32] = state;
     let mut sum: u64 = 0;
-    let mut holder = 0;
-    while holder < holders {
-        sum += wide(state[ROW_WORDS * (field + holder) + intertie]);
-        holder += 1;
+    for holder in 0..holders {
+        sum += words[ROW_WORDS * (field + holder) + intertie] as u64;
     }
     sum
 }
 
 // A field of the pairs on every intertie.
 fn sum_row(
-    state: &[u32],
+    state: &[u32; STATE_WORDS],
     field: usize,
     holders: usize,
     interties: usize,
-    lines: &mut [u64],
+    lines: &mut [u64; NUMBERS],
     to: usize,
 )
-    requires { (length state.now ≡ state_words) × (field ≤ last_row) × (holders ≤ most_holders) × (interties ≤ most_interties)
-        × (to < posting_rows) × (length lines.old ≡ posting_numbers) }
+    requires { (field ≤ last_row) × (holders ≤ most_holders) × (interties ≤ most_interties)
+        × (to < posting_rows) }
     ensures { lines.new ≡ fill_row to interties (field_on state.now field holders) lines.old }
 {
     let first = ROW_WORDS * to;
-    let mut intertie = 0;
-    while intertie < interties {
+    for intertie in 0..interties {
         lines[first + intertie] = field_on(state, field, holders, intertie);
-        intertie += 1;
     }
 }
 
 // Limit, outside, E, P, N and unassigned of each intertie.
-pub(super) fn intertie_lines(state: &[u32], interties: usize, holders: usize, lines: &mut [u64])
-    requires { Readable interties holders state.now lines.old }
+pub(super) fn intertie_lines(
+    state: &[u32; STATE_WORDS],
+    interties: usize,
+    holders: usize,
+    lines: &mut [u64; NUMBERS],
+)
+    requires { (interties ≤ most_interties) × (holders ≤ most_holders) }
     ensures { lines.new ≡ interties_from interties holders state.now lines.old }
 {
     copy_row(state, layout::LIMIT as usize, interties, lines, rows::LIMIT);
@@ -116,26 +115,24 @@ pub(super) fn intertie_lines(state: &[u32], interties: usize, holders: usize, li
 }
 
 // Copies the Load Share Quantities of the holders.
-fn copy_quantities(quantities: &[u64; MOST_HOLDERS], holders: usize, lines: &mut [u64])
-    requires { (holders ≤ most_holders) × (length lines.old ≡ posting_numbers) }
+fn copy_quantities(quantities: &[u64; MOST_HOLDERS], holders: usize, lines: &mut [u64; NUMBERS])
+    requires { holders ≤ most_holders }
     ensures { lines.new ≡ fill_row quantity_line holders (at quantities.now) lines.old }
 {
     let first = ROW_WORDS * rows::LOAD_SHARE_QUANTITY;
-    let mut holder = 0;
-    while holder < holders {
+    for holder in 0..holders {
         lines[first + holder] = quantities[holder];
-        holder += 1;
     }
 }
 
 // Load share, Load Share Quantity, reserved and Step 5 share of each holder.
 pub(super) fn holder_lines(
-    state: &[u32],
+    state: &[u32; STATE_WORDS],
     quantities: &[u64; MOST_HOLDERS],
     holders: usize,
-    lines: &mut [u64],
+    lines: &mut [u64; NUMBERS],
 )
-    requires { (length state.now ≡ state_words) × (holders ≤ most_holders) × (length lines.old ≡ posting_numbers) }
+    requires { holders ≤ most_holders }
     ensures { lines.new ≡ holders_from holders state.now quantities.now lines.old }
 {
     copy_row(

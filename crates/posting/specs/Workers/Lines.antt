@@ -1,19 +1,12 @@
--- What the workers of the posting are handed: a state whose sizes are in range, and its words as the posting reads them.
-use Rattle.std.specs.Prelude.{ℕ, ◌+◌, ◌≤◌, ◌≡◌, List, length}
-use Rattle.base.specs.Limits.{most_interties, most_holders, state_words}
+-- The words of a state as the posting reads them.
+use Rattle.std.specs.Prelude.{ℕ, ◌+◌, List}
 use Rattle.base.specs.Sums.{sum_to}
 use Rattle.base.specs.Words.{at}
 use Rattle.state.specs.Layout.{place, limit_row, outside_row, existing_row, pre_ra_row, new_use_row, unassigned_row}
 use Rattle.state.specs.Layout.{load_share_row, step5_share_row, reserved_row}
 use Rattle.state_rows.specs.Rows.{fill_row}
-use Rattle.posting.specs.Rows.{posting_numbers, limit_line, outside_line, existing_line, pre_ra_line, new_use_line, unassigned_line}
+use Rattle.posting.specs.Rows.{limit_line, outside_line, existing_line, pre_ra_line, new_use_line, unassigned_line}
 use Rattle.posting.specs.Rows.{load_share_line, quantity_line, reserved_line, step5_share_line}
-
-pub record Readable (I H : ℕ) (state lines : List ℕ) : Type 0 where
-  pub long : length state ≡ state_words
-  pub few : I ≤ most_interties
-  pub low : H ≤ most_holders
-  pub room : length lines ≡ posting_numbers
 
 -- a row of the state, and a field of the pairs summed over the holders
 abbrev pub row_word : List ℕ → ℕ → ℕ → ℕ

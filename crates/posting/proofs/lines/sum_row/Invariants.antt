@@ -1,12 +1,8 @@
 -- `sum_row` meets its contract: after i turns the first i interties have their sums.
-use Rattle.base.proofs.Prelude.{◌-◌, ◌≤◌, ◌≡◌, length}
+use Rattle.base.proofs.Prelude.{◌≡◌}
 use Rattle.state_rows.specs.Rows.{fill_row}
 use Rattle.posting.specs.Workers.Lines.{field_on}
 use Rattle.posting.proofs.lines.sum_row.Given as goal
 
 abbrev pub invariant-loop-intertie : goal.invariant-loop-intertie
-invariant-loop-intertie l =
-    (l.intertie ≤ l.interties) × (length l.lines ≡ length l.initial.lines) × (l.lines ≡ fill_row l.to l.intertie (field_on l.state l.field l.holders) l.initial.lines)
-
-abbrev pub decreases-loop-intertie : goal.decreases-loop-intertie
-decreases-loop-intertie l = l.interties - l.intertie
+invariant-loop-intertie l = l.lines ≡ fill_row l.to l.intertie (field_on l.state l.field l.holders) l.initial.lines
