@@ -4,7 +4,6 @@
 
 use base::limits::MOST_SHEET_BYTES;
 use input::say;
-use posting_text::TEXT_BYTES;
 
 // Room for the longest sheet and for one byte more, by which a longer input is told from it, and is refused.
 const SHEET_ROOM: usize = MOST_SHEET_BYTES + 1;
@@ -26,7 +25,6 @@ fn main(rt: HostRuntime) {
 
 // Answers whether the posting was written.
 fn print_posting(stdout: &impl Print, sheet: &[u8]) -> bool {
-    let mut out = [0u8; TEXT_BYTES];
-    let count = posting_text::posting_text(sheet, &mut out);
-    stdout.write_all(&out[..count]).is_ok()
+    let text = posting_text::posting_text(sheet);
+    stdout.write_all(text.as_slice()).is_ok()
 }

@@ -12,11 +12,11 @@ use Rattle.text.specs.Decimal.{decimal_to}
 use Rattle.text.specs.Lines.{figure, figures_of, line_of, each}
 use Rattle.base.specs.Words.{tab}
 use Rattle.posting_text.specs.Text.{text_of}
-use Rattle.posting_text.specs.Workers.Columns.{lines_text}
+use Rattle.posting_text.specs.Workers.Columns.{intertie_by_rows, holder_by_rows, lines_text}
 use Rattle.posting_text.proofs.PostedLaws.{text-by-rows}
 
 pub case-i : text_of sheet_i ≡ ascii "T 100000\nI 0 110000 10000 30000 0 0 70000\nH 0 50000 50000 0 43750\nH 1 30000 30000 0 26250\nH 2 20000 20000 30000 0\n"
-unfolding bytes_of sheet_of sheet_i lines_i word_at fill_row tab decimal_to figure figures_of line_of each lines_text
+unfolding bytes_of sheet_of sheet_i lines_i word_at fill_row tab decimal_to figure figures_of line_of each intertie_by_rows holder_by_rows lines_text
 case-i = text-by-rows sheet_i stands-i ∙ rw (posted-i (replicate 480 0)) refl
 
 -- the examples of a sheet's refusals (docs/RULES.md, "Refusals")

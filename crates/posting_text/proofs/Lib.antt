@@ -1,4 +1,3 @@
 pub mod TextLaws
-pub mod PutLaws
 pub mod PostedLaws
 pub mod Examples

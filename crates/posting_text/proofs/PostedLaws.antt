@@ -1,16 +1,13 @@
 -- The text of a sheet by cases: refused, or posted.
-use Prim.Native.Nat.{ℕ, ◌≤◌, ◌<◌}
-use Prim.Native.Char.{code}
+use Prim.Native.Nat.{ℕ, ◌+◌, ◌*◌, ◌≤◌, ◌<◌}
 use mathlib.Core.Path.{◌≡◌, refl, sym, ap, ◌∙◌}
 use mathlib.Core.Logic.{◌≢◌}
 use mathlib.Core.List.{List, [], ◌∷◌, ◌++◌}
 use native.Mathlib.Omega.{arith}
 use lib.Dec.{eqb, ltb}
-use lib.ListN.{length, replicate, length-replicate}
-use lib.Seq.{length-take-le}
+use lib.ListN.{length, replicate, length-replicate, length-append}
 use borrow.Author.Tests.{eqb-true, ne_eqb, le-ltb}
 use Rattle.base.specs.Choice.{pick}
-use Rattle.base.specs.Words.{tab}
 use Rattle.base.specs.declared.Answer.{Answer}
 use Rattle.base.proofs.ChoiceLaws.{pick-by}
 use Rattle.sheet_records.specs.Sheet.{interties, holders}
@@ -23,36 +20,41 @@ use Rattle.steps.specs.Step5to7.{held, step5_share, unassigned}
 use Rattle.posting.specs.Post.{pre_ra_on, new_use_on, Posted, posted}
 use Rattle.posting.proofs.PostLaws.{post-done}
 use Rattle.posting.proofs.PostedRows.{Rows, posted-rows}
-use Rattle.text.specs.Written.{written, Starts}
-use Rattle.text.proofs.WrittenLaws.{length-written}
-use Rattle.text.specs.Lines.{line, each}
-use Rattle.text.proofs.PutLaws.{Put}
-use Rattle.text.proofs.EachLaws.{each_same, put-starts}
-use Rattle.posting_text.specs.Text.{intertie_line, holder_line, posting_text, refusal_line, text_of}
-use Rattle.posting_text.specs.Workers.Columns.{column_of, column_line, lines_text, fresh}
-use Rattle.posting_text.proofs.TextLaws.{length-short}
+use Rattle.text.specs.Written.{appended}
+use Rattle.text.specs.Lines.{blank, bounded_line, each}
+use Rattle.text.proofs.PutLaws.{appended-fits}
+use Rattle.text.proofs.EachLaws.{length-each, each_same}
+use Rattle.posting_text.specs.Text.{letter_t, letter_r, line, intertie_line, holder_line, posting_text, refusal_line, text_of}
+use Rattle.posting_text.specs.Workers.Columns.{intertie_by_rows, holder_by_rows, lines_text, fresh}
+use Rattle.posting_text.proofs.TextLaws.{length-short, intertie-few}
 
 -- rows that have a posting's figures
 module _ (y : Inputs) (l : List ℕ) (r : Rows y l) where
-  intertie-column : (i : ℕ) → i < y.interties →
-      column_of 0 6 l i ≡ y.limit i ∷ y.outside i ∷ existing_on y i ∷ pre_ra_on y i ∷ new_use_on y i ∷ unassigned y i ∷ []
-  unfolding tab
-  intertie-column i k = rw (r.limit i k, r.outside i k, r.existing i k, r.pre-ra i k, r.new-use i k, r.unassigned-is i k) refl
+  intertie-same : (i : ℕ) → i < y.interties → intertie_by_rows l i ≡ intertie_line y i
+  unfolding intertie_by_rows
+  intertie-same i k = rw (r.limit i k, r.outside i k, r.existing i k, r.pre-ra i k, r.new-use i k, r.unassigned-is i k) refl
 
-  holder-column : (h : ℕ) → h < y.holders → column_of 6 4 l h ≡ y.load_share h ∷ load_share_quantity y h ∷ held y h ∷ step5_share y h ∷ []
-  unfolding tab
-  holder-column h k = rw (r.load-share h k, r.quantity h k, r.reserved h k, r.step5-share h k) refl
+  holder-same : (h : ℕ) → h < y.holders → holder_by_rows l h ≡ holder_line y h
+  unfolding holder_by_rows
+  holder-same h k = rw (r.load-share h k, r.quantity h k, r.reserved h k, r.step5-share h k) refl
 
   -- their text is the posting's
   pub rows-text : lines_text y.interties y.holders (available_total y) l ≡ posting_text y
   unfolding lines_text posting_text
   rows-text =
-      let first : each y.interties (column_line (code "I") 0 6 l) ≡ each y.interties (intertie_line y) =
-      each_same y.interties (column_line (code "I") 0 6 l) (intertie_line y) (λ i k. ap (λ (ns : List ℕ). line "I" (i ∷ ns)) (intertie-column i k)) in
-      let second : each y.holders (column_line (code "H") 6 4 l) ≡ each y.holders (holder_line y) =
-      each_same y.holders (column_line (code "H") 6 4 l) (holder_line y) (λ h k. ap (λ (ns : List ℕ). line "H" (h ∷ ns)) (holder-column h k)) in
-      ap (λ (t : List ℕ). line "T" (available_total y ∷ []) ++ t ++ each y.holders (column_line (code "H") 6 4 l)) first
-      ∙ ap (λ (t : List ℕ). line "T" (available_total y ∷ []) ++ each y.interties (intertie_line y) ++ t) second
+      let first : each y.interties (intertie_by_rows l) ≡ each y.interties (intertie_line y) =
+      each_same y.interties (intertie_by_rows l) (intertie_line y) intertie-same in
+      let second : each y.holders (holder_by_rows l) ≡ each y.holders (holder_line y) =
+      each_same y.holders (holder_by_rows l) (holder_line y) holder-same in
+      cc
+
+-- a line of one number, put into a text that is empty
+short-put : (letter n : ℕ) (l m : List ℕ) → l ≡ [] → m ≡ appended 12069 (bounded_line (letter ∷ []) blank (n ∷ [])) l → m ≡ line letter (n ∷ [])
+unfolding bounded_line
+short-put letter n l m empty put =
+    put
+    ∙ appended-fits 12069 (line letter (n ∷ [])) l (omega (arith, ap length empty, length-short letter n))
+    ∙ ap (λ (t : List ℕ). t ++ line letter (n ∷ [])) empty
 
 module _ (s : List ℕ) where
   -- the number that the posting answers is the sheet's
@@ -85,10 +87,8 @@ module _ (s : List ℕ) where
       unfolding text_of
       text-refused = rw (ne_eqb (sheet_refusal s) 0 (λ z. some (number ∙ z)), number) refl
 
-      pub refused-text : (r : ℕ) (l n : List ℕ) → length l ≡ 12069 → Put 0 (refusal_line answer.refusal) r l n →
-          Starts (text_of s) r l n
-      refused-text r l n long put =
-          rw text-refused (put-starts (refusal_line answer.refusal) r l n (omega (arith, length-short (code "R") answer.refusal, long)) put)
+      pub refused-text : (l n : List ℕ) → l ≡ [] → n ≡ appended 12069 (bounded_line (letter_r ∷ []) blank (answer.refusal ∷ [])) l → n ≡ text_of s
+      refused-text l n empty put = short-put letter_r answer.refusal l n empty put ∙ sym text-refused
 
     -- and where it stands
     module _ (none : answer.refusal ≡ 0) where
@@ -106,18 +106,33 @@ module _ (s : List ℕ) where
         pub few-holders : H ≤ 32
         few-holders = omega (arith, size_is H (holders s) h, (standing s stands).sizes.few-holders)
 
-        pub done-text : (numbers : List ℕ) (r : ℕ) (l n : List ℕ) → numbers ≡ (fresh s).lines → length l ≡ 12069 →
-            (r ≡ length (lines_text I H answer.kw numbers)) × (n ≡ written 0 (lines_text I H answer.kw numbers) l) × (r ≤ 12069) →
-            Starts (text_of s) r l n
-        done-text numbers r l n lines long put =
-            let same : lines_text I H answer.kw numbers ≡ text_of s =
-            ap (λ (k : ℕ). lines_text k H answer.kw numbers) (size_is I (interties s) i)
-            ∙ ap (λ (k : ℕ). lines_text (interties s) k answer.kw numbers) (size_is H (holders s) h)
-            ∙ ap (λ (a : Answer). lines_text (interties s) (holders s) a.kw numbers) is
-            ∙ ap (λ (t : List ℕ). lines_text (interties s) (holders s) (fresh s).answer.kw t) lines
-            ∙ sym (text-by-rows stands) in
-            let within : r ≤ length n = omega (arith, put.2, ap length put.1, length-written 0 (lines_text I H answer.kw numbers) l, long) in (
-              put.0 ∙ ap length same,
-              put.1 ∙ ap (λ (t : List ℕ). written 0 t l) same,
-              (within, sym (length-take-le r n within)),
-            )
+        module _ (numbers l t : List ℕ) (lines : numbers ≡ (fresh s).lines) (empty : l ≡ [])
+            (first : t ≡ appended 12069 (bounded_line (letter_t ∷ []) blank (answer.kw ∷ [])) l) where
+          pub interties-room : length t + 149 * I ≤ 12069
+          interties-room = omega (arith, ap length (short-put letter_t answer.kw l t empty first), length-short letter_t answer.kw, few-interties)
+
+          module _ (a : List ℕ) (second : a ≡ t ++ each I (intertie_by_rows numbers)) where
+            pub holders-room : length a + 149 * H ≤ 12069
+            holders-room =
+                omega (
+                  arith,
+                  ap length (short-put letter_t answer.kw l t empty first),
+                  length-short letter_t answer.kw,
+                  ap length second,
+                  length-append t (each I (intertie_by_rows numbers)),
+                  length-each I 149 (intertie_by_rows numbers) (intertie-few numbers),
+                  few-interties,
+                  few-holders,
+                )
+
+            pub done-text : (b : List ℕ) → b ≡ a ++ each H (holder_by_rows numbers) → b ≡ text_of s
+            unfolding lines_text
+            done-text b third =
+                third
+                ∙ ap (λ (u : List ℕ). u ++ each H (holder_by_rows numbers)) second
+                ∙ ap (λ (u : List ℕ). u ++ each I (intertie_by_rows numbers) ++ each H (holder_by_rows numbers)) (short-put letter_t answer.kw l t empty first)
+                ∙ ap (λ (k : ℕ). lines_text k H answer.kw numbers) (size_is I (interties s) i)
+                ∙ ap (λ (k : ℕ). lines_text (interties s) k answer.kw numbers) (size_is H (holders s) h)
+                ∙ ap (λ (n : Answer). lines_text (interties s) (holders s) n.kw numbers) is
+                ∙ ap (λ (u : List ℕ). lines_text (interties s) (holders s) (fresh s).answer.kw u) lines
+                ∙ sym (text-by-rows stands)

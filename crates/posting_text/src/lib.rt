@@ -1,21 +1,22 @@
-// The posting as text. Each function writes from a place on and answers the place after it.
+// The posting as text.
 #![tactic(auto)]
 
-ghost use Rattle.std.specs.Prelude.{◌≡◌, ◌+◌, ◌*◌, ◌≤◌, ◌<◌, ◌∷◌, [], length};
+ghost use Rattle.std.specs.Prelude.{◌≡◌, ◌+◌, ◌*◌, ◌≤◌, ◌<◌, ◌++◌, length};
 ghost use Rattle.base.specs.Limits.{most_interties, most_holders};
-ghost use Rattle.io.specs.Counts.{IsPrefixLen};
-ghost use Rattle.text.specs.Written.{written};
-ghost use Rattle.text.specs.Lines.{blank, figure_bytes, figures_of, each};
+ghost use Rattle.base.specs.Words.{at};
+ghost use Rattle.text.specs.Written.{appended};
+ghost use Rattle.text.specs.Lines.{each};
+ghost use Rattle.state.specs.Layout.{place};
 ghost use Rattle.posting.specs.Rows.{posting_rows};
-ghost use Rattle.posting_text.specs.Text.{line, text_of};
-ghost use Rattle.posting_text.specs.Workers.Columns.{intertie_rows, short_bytes, long_bytes, text_bytes};
-ghost use Rattle.posting_text.specs.Workers.Columns.{column_of, column_line, lines_text};
+ghost use Rattle.posting_text.specs.Text.{text_of};
+ghost use Rattle.posting_text.specs.Workers.Columns.{long_bytes, text_bytes, intertie_by_rows, holder_by_rows};
 
+use arrayvec::ArrayVec;
 use base::limits::{MOST_HOLDERS, MOST_INTERTIES};
 use posting::rows;
 use posting::rows::NUMBERS;
 use state::layout::ROW_WORDS;
-use text::{put, put_figure};
+use text::put_line;
 
 // The most bytes of a line: a letter, seven numbers of at most 20 digits, each after a blank, and the end of the line.
 const LINE_BYTES: usize = 149;
@@ -23,129 +24,85 @@ const LINE_BYTES: usize = 149;
 // Room for the line of T and one for each intertie and holder.
 pub const TEXT_BYTES: usize = (1 + MOST_INTERTIES + MOST_HOLDERS) * LINE_BYTES;
 
-// A letter and a number.
-fn put_short_line(letter: u8, number: u64, out: &mut [u8], at: usize) -> usize
-    requires { at + short_bytes ≤ length out.old }
-    ensures { let text = line letter (number ∷ []) in
-        (result ≡ at + length text) × (out.new ≡ written at text out.old) }
+// What `post` prints of a sheet.
+pub fn posting_text(sheet: &[u8]) -> ArrayVec<u8, TEXT_BYTES>
+    ensures { result.items ≡ text_of sheet.now }
 {
-    let number_at = put(letter, out, at);
-    let end = put_figure(number, b' ', out, number_at);
-    put(b'\n', out, end)
-}
-
-// The figures of a column, from a row on.
-fn put_column(
-    numbers: &[u64; NUMBERS],
-    first: usize,
-    rows: usize,
-    column: usize,
-    out: &mut [u8],
-    at: usize,
-) -> usize
-    requires { (first + rows ≤ posting_rows) × (rows ≤ intertie_rows) × (column < most_interties)
-        × (at + figure_bytes * rows ≤ length out.old) }
-    ensures { let text = figures_of blank (column_of first rows numbers.now column) in
-        (result ≡ at + length text) × (out.new ≡ written at text out.old) }
-{
-    let mut next = at;
-    let mut row = 0;
-    while row < rows {
-        next = put_figure(numbers[ROW_WORDS * (first + row) + column], b' ', out, next);
-        row += 1;
-    }
-    next
-}
-
-// The line of an intertie or a holder.
-fn put_long_line(
-    letter: u8,
-    numbers: &[u64; NUMBERS],
-    first: usize,
-    rows: usize,
-    column: usize,
-    out: &mut [u8],
-    at: usize,
-) -> usize
-    requires { (first + rows ≤ posting_rows) × (rows ≤ intertie_rows) × (column < most_interties)
-        × (at + long_bytes ≤ length out.old) }
-    ensures { let text = column_line letter first rows numbers.now column in
-        (result ≡ at + length text) × (out.new ≡ written at text out.old) }
-{
-    let number_at = put(letter, out, at);
-    let figures_at = put_figure(column as u64, b' ', out, number_at);
-    let end = put_column(numbers, first, rows, column, out, figures_at);
-    put(b'\n', out, end)
-}
-
-// The lines of every intertie or holder.
-fn put_lines(
-    letter: u8,
-    numbers: &[u64; NUMBERS],
-    first: usize,
-    rows: usize,
-    count: usize,
-    out: &mut [u8],
-    at: usize,
-) -> usize
-    requires { (first + rows ≤ posting_rows) × (rows ≤ intertie_rows) × (count ≤ most_interties)
-        × (at + long_bytes * count ≤ length out.old) }
-    ensures { let text = each count (column_line letter first rows numbers.now) in
-        (result ≡ at + length text) × (out.new ≡ written at text out.old) }
-{
-    let mut next = at;
-    let mut column = 0;
-    while column < count {
-        next = put_long_line(letter, numbers, first, rows, column, out, next);
-        column += 1;
-    }
-    next
-}
-
-// T, the lines of the interties and the lines of the holders.
-fn put_posting(
-    total: u64,
-    numbers: &[u64; NUMBERS],
-    interties: usize,
-    holders: usize,
-    out: &mut [u8],
-) -> usize
-    requires { (interties ≤ most_interties) × (holders ≤ most_holders) × (length out.old ≡ text_bytes) }
-    ensures { let text = lines_text interties holders total numbers.now in
-        (result ≡ length text) × (out.new ≡ written 0 text out.old) × (result ≤ text_bytes) }
-{
-    let interties_at = put_short_line(b'T', total, out, 0);
-    let holders_at = put_lines(
-        b'I',
-        numbers,
-        rows::LIMIT,
-        rows::INTERTIE_ROWS,
-        interties,
-        out,
-        interties_at,
-    );
-    put_lines(
-        b'H',
-        numbers,
-        rows::LOAD_SHARE,
-        rows::HOLDER_ROWS,
-        holders,
-        out,
-        holders_at,
-    )
-}
-
-// Writes what `post` prints of a sheet, and answers how many bytes it is.
-pub fn posting_text(sheet: &[u8], out: &mut [u8; TEXT_BYTES]) -> usize
-    ensures { let text = text_of sheet.now in
-        (result ≡ length text) × (out.new ≡ written 0 text out.old) × IsPrefixLen result out.new }
-{
+    let mut text = ArrayVec::new();
     let mut numbers = [0u64; NUMBERS];
     let answer = posting::post(sheet, &mut numbers);
     if answer.refusal != 0 {
-        return put_short_line(b'R', answer.refusal as u64, out, 0);
+        put_line(b"R", b' ', &[answer.refusal as u64], &mut text);
+        return text;
     }
     let interties = sheet_records::words::intertie_count(sheet) as usize;
     let holders = sheet_records::words::holder_count(sheet) as usize;
-    put_posting(answer.kw, &numbers, interties, holders, out)
+    put_line(b"T", b' ', &[answer.kw], &mut text);
+    put_interties(&numbers, interties, &mut text);
+    put_holders(&numbers, holders, &mut text);
+    text
+}
+
+// The lines of the interties.
+fn put_interties(
+    numbers: &[u64; NUMBERS],
+    interties: usize,
+    text: &mut ArrayVec<u8, TEXT_BYTES>,
+)
+    requires { (interties ≤ most_interties) × (length text.old.items + long_bytes * interties ≤ text_bytes) }
+    ensures { text.new.items ≡ text.old.items ++ each interties (intertie_by_rows numbers.now) }
+{
+    for intertie in 0..interties {
+        put_intertie(numbers, intertie, text);
+    }
+}
+
+// Of an intertie its number, limit, outside, E, P, N, unassigned.
+fn put_intertie(numbers: &[u64; NUMBERS], intertie: usize, text: &mut ArrayVec<u8, TEXT_BYTES>)
+    requires { intertie < most_interties }
+    ensures { text.new.items ≡ appended text_bytes (intertie_by_rows numbers.now intertie) text.old.items }
+{
+    let figures = [
+        intertie as u64,
+        number(numbers, rows::LIMIT, intertie),
+        number(numbers, rows::OUTSIDE, intertie),
+        number(numbers, rows::EXISTING, intertie),
+        number(numbers, rows::PRE_RA, intertie),
+        number(numbers, rows::NEW_USE, intertie),
+        number(numbers, rows::UNASSIGNED, intertie),
+    ];
+    put_line(b"I", b' ', &figures, text);
+}
+
+// The lines of the holders.
+fn put_holders(numbers: &[u64; NUMBERS], holders: usize, text: &mut ArrayVec<u8, TEXT_BYTES>)
+    requires { (holders ≤ most_holders) × (length text.old.items + long_bytes * holders ≤ text_bytes) }
+    ensures { text.new.items ≡ text.old.items ++ each holders (holder_by_rows numbers.now) }
+{
+    for holder in 0..holders {
+        put_holder(numbers, holder, text);
+    }
+}
+
+// Of a holder its number, load share, Load Share Quantity, reserved, Step 5 share.
+fn put_holder(numbers: &[u64; NUMBERS], holder: usize, text: &mut ArrayVec<u8, TEXT_BYTES>)
+    requires { holder < most_holders }
+    ensures { text.new.items ≡ appended text_bytes (holder_by_rows numbers.now holder) text.old.items }
+{
+    let figures = [
+        holder as u64,
+        number(numbers, rows::LOAD_SHARE, holder),
+        number(numbers, rows::LOAD_SHARE_QUANTITY, holder),
+        number(numbers, rows::RESERVED, holder),
+        number(numbers, rows::STEP_5_SHARE, holder),
+    ];
+    put_line(b"H", b' ', &figures, text);
+}
+
+// The number of an intertie or a holder in a row.
+fn number(numbers: &[u64; NUMBERS], row: usize, column: usize) -> u64
+    requires { (row < posting_rows) × (column < most_interties) }
+    ensures { result ≡ at numbers.now (place row column) }
+{
+    numbers[ROW_WORDS * row + column]
 }

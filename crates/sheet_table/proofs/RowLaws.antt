@@ -1,25 +1,24 @@
 -- How long the lines of a table are, and what writing them leaves.
-use Prim.Native.Nat.{ℕ, zero, suc, ◌+◌, ◌*◌, ◌/◌, ◌%◌, ◌^◌, ◌≤◌, ◌<◌}
+use Prim.Native.Nat.{ℕ, zero, suc, ◌+◌, ◌-◌, ◌*◌, ◌/◌, ◌%◌, ◌^◌, ◌≤◌, ◌<◌}
 use mathlib.Core.Path.{◌≡◌, refl, sym, ap, subst, ◌∙◌}
 use mathlib.Core.Bool.{false}
 use mathlib.Core.Logic.{◌≢◌}
-use mathlib.Core.List.{List, [], ◌∷◌, ◌++◌}
+use mathlib.Core.List.{List, [], ◌∷◌, ◌++◌, append_assoc}
 use native.Mathlib.Nat.{pow-suc}
 use native.Mathlib.Numerals.{add-one}
 use native.Mathlib.Omega.{arith}
 use lib.Dec.{ltb, eqb}
 use lib.ListN.{length, length-append, take, drop}
-use lib.Seq.{take-append_seam}
+use lib.Seq.{drop-drop}
 use borrow.Author.Tests.{eq-eqb, ne_eqb, ltb-false}
+use borrow.Rule.Slice.PartMut.{put_mid}
 use Rattle.base.specs.Words.{at}
 use Rattle.base.proofs.ChoiceLaws.{pick-by}
 use Rattle.text.specs.Decimal.{digit, decimal, decimal_to}
 use Rattle.text.specs.Lines.{line_end, figure, figures_of, line_of, bounded_line}
-use Rattle.text.specs.Written.{written}
 use Rattle.text.proofs.DecimalLaws.{spelled_is}
-use Rattle.text.proofs.LineLaws.{length-line, line-stands}
-use Rattle.text.proofs.WrittenLaws.{written_is, written_none}
-use Rattle.text.proofs.PutLaws.{put_then}
+use Rattle.text.proofs.LineLaws.{line-stands}
+use Rattle.text.proofs.WrittenLaws.{written_is, written_none, put_then}
 use Rattle.io.specs.Digits.{last_digits, IsDigitCount}
 use Rattle.sheet_keys.specs.Key.{kind_of, holder_of, intertie_of, rank_of, years_of}
 use Rattle.sheet_records.specs.Sheet.{count, key_at, kw_at}
@@ -131,16 +130,22 @@ rows_few sheet (suc k) bytes =
       row-few (key_at sheet k) (kw_at sheet k) (word_below sheet _ bytes) (word_below sheet _ bytes),
     )
 
--- a line that stands at the start of a buffer
-pub line-part : (label : List ℕ) (separator : ℕ) (numbers : List ℕ) (r : ℕ) (l n : List ℕ) → length l ≡ 189 → length label ≤ 20 → length numbers ≤ 8 →
-    r ≡ length (bounded_line label separator numbers) → n ≡ written 0 (bounded_line label separator numbers) l → take r n ≡ line_of label separator numbers
-line-part label separator numbers r l n long short few size is =
+-- a line copied into its part of the table
+pub line-copied : (label : List ℕ) (separator : ℕ) (numbers : List ℕ) (place n : ℕ) (line part l : List ℕ) → length label ≤ 20 → length numbers ≤ 8 →
+    line ≡ bounded_line label separator numbers → place + length (line_of label separator numbers) ≤ length l → n ≡ length line → part ≡ line →
+    Put place (line_of label separator numbers) (place + n) l (put_mid place ((place + n) - place) l part)
+line-copied label separator numbers place n line part l short few is fits size copied =
     let t : List ℕ = line_of label separator numbers in
-    let same : bounded_line label separator numbers ≡ t = line-stands label separator numbers short few in
-    let fits : 0 + length t ≤ length l = omega (arith, length-line label separator numbers) in
-    ap (λ (k : ℕ). take k n) (size ∙ ap length same)
-    ∙ ap (take (length t)) (is ∙ ap (λ (u : List ℕ). written 0 u l) same ∙ written_is 0 t l fits)
-    ∙ take-append_seam t (drop (0 + length t) l)
+    let same : line ≡ t = is ∙ line-stands label separator numbers short few in
+    let many : (place + n) - place ≡ length t = omega (arith, size, ap length same) in
+    let rest : drop ((place + n) - place) (drop place l) ≡ drop (place + length t) l =
+    ap (λ (k : ℕ). drop k (drop place l)) many ∙ drop-drop (length t) place l in (
+      omega (arith, size, ap length same),
+      ap (λ (u : List ℕ). take place l ++ (u ++ drop ((place + n) - place) (drop place l))) (copied ∙ same)
+          ∙ ap (λ (u : List ℕ). take place l ++ (t ++ u)) rest
+          ∙ sym (append_assoc (take place l) t (drop (place + length t) l))
+          ∙ sym (written_is place t l fits),
+    )
 
 -- the digits of a label
 pub label-digits : (n count : ℕ) (text : List ℕ) → n ≤ 4_294_967_295 → IsDigitCount 10 1 n count → take count text ≡ last_digits 10 count n → take count text ≡ decimal n

@@ -12,8 +12,7 @@ use Rattle.io.specs.Counts.{IsPrefixLen}
 use Rattle.text.specs.Written.{written}
 use Rattle.text.specs.Decimal.{decimal}
 use Rattle.text.specs.Lines.{line_of}
-use Rattle.text.proofs.WrittenLaws.{written_none, length-written}
-use Rattle.text.proofs.PutLaws.{put_then}
+use Rattle.text.proofs.WrittenLaws.{written_none, length-written, put_then}
 use Rattle.sheet_records.specs.Sheet.{interties, holders, count}
 use Rattle.sheet_records.specs.Refusal.{bad_length}
 use Rattle.sheet_records.proofs.RefusalLaws.{long-enough}

@@ -12,7 +12,6 @@ use crate::kinds;
 use crate::kinds::NAME_BYTES;
 use sheet_keys::key;
 use sheet_records::reader;
-use text::LINE_BYTES;
 
 // A label, and figures after commas.
 fn put_line(label: &[u8], figures: &[u64], out: &mut [u8], at: usize) -> usize
@@ -21,9 +20,10 @@ fn put_line(label: &[u8], figures: &[u64], out: &mut [u8], at: usize) -> usize
     ensures { let line = line_of label.now comma figures.now in
         Put at line result out.old out.new }
 {
-    let mut buffer = [0u8; LINE_BYTES];
-    let count = text::line(label, b',', figures, &mut buffer);
-    text::put_within(&buffer[..count], out, at)
+    let line = text::line(label, b',', figures);
+    let end = at + line.len();
+    out[at..end].copy_from_slice(line.as_slice());
+    end
 }
 
 // I and H.

@@ -1,135 +1,112 @@
--- What calls that write one text after another have written together.
-use Prim.Native.Nat.{ℕ, ◌+◌, ◌≤◌, ◌<◌}
+-- What texts put after one another make.
+use Prim.Native.Nat.{ℕ, ◌+◌, ◌-◌, ◌*◌, ◌^◌, ◌≤◌, ◌<◌}
 use mathlib.Core.Path.{◌≡◌, refl, sym, ap, ◌∙◌}
-use mathlib.Core.List.{List, [], ◌∷◌, ◌++◌}
+use mathlib.Core.Bool.{true, false}
+use mathlib.Core.List.{List, [], ◌∷◌, ◌++◌, append_assoc, append-nil}
+use native.Mathlib.Decide.{dec_lt}
 use native.Mathlib.Omega.{arith}
-use lib.ListN.{length, length-append, take, drop, set}
-use lib.Seq.{length-take-le, take-append_seam}
+use lib.ListN.{length, length-append, take}
+use lib.Seq.{length-take-le}
+use lib.Dec.{leb}
+use borrow.Author.Tests.{le-leb, lt-leb}
+use Rattle.std.specs.Prelude.{◌↔◌, Result, Ok, Err, IsOk, OnOk, OnErr}
+use Rattle.std.specs.Fmt as Fmt
 use Rattle.base.specs.Words.{at}
 use Rattle.base.proofs.ChoiceLaws.{pick-by}
-use Rattle.io.specs.Digits.{last_digits, IsDigitCount}
-use borrow.Author.Tests.{le-leb, lt-leb}
-use Rattle.text.specs.Written.{written, Starts, has_room, PutWithin}
+use Rattle.text.specs.Written.{appended}
 use Rattle.text.specs.Decimal.{decimal}
 use Rattle.text.specs.Lines.{line_end, figure, figures_of, line_of, bounded_line}
-use Rattle.text.proofs.WrittenLaws.{written_is, written_none, written_then, length-written}
-use Rattle.text.proofs.LineLaws.{length-figure, length-line, figures-turn, line-stands, label-over, figures-over}
-use Rattle.text.proofs.DecimalLaws.{spelled_is}
-
--- a text from a place on, and the place after it
-abbrev pub Put : ℕ → List ℕ → ℕ → List ℕ → List ℕ → Type 0
-Put place text next l m = (next ≡ place + length text) × (m ≡ written place text l)
+use Rattle.text.proofs.DecimalLaws.{decimal-of}
+use Rattle.text.proofs.LineLaws.{length-figure, length-figures, figures-turn, line-stands}
 
 -- a text that there is room for, and one that there is none for
-pub put-fits : (place next : ℕ) (text l m : List ℕ) → place + length text ≤ length l → PutWithin place text next l m → Put place text next l m
-put-fits place next text l m fit p = rw (le-leb (place + length text) (length l) fit) at p
+pub appended-fits : (room : ℕ) (text l : List ℕ) → length l + length text ≤ room → appended room text l ≡ l ++ text
+unfolding appended
+appended-fits room text l fit = rw (le-leb (length l + length text) room fit) refl
 
-pub fits-put : (place next : ℕ) (text l m : List ℕ) → place + length text ≤ length l → Put place text next l m → PutWithin place text next l m
-fits-put place next text l m fit p = rw (le-leb (place + length text) (length l) fit) p
+pub appended-over : (room : ℕ) (text l : List ℕ) → room < length l + length text → appended room text l ≡ l
+unfolding appended
+appended-over room text l over = rw (lt-leb (length l + length text) room over) refl
 
-pub no_room : (place : ℕ) (text l : List ℕ) → length l < place + length text → PutWithin place text place l l
-no_room place text l over = rw (lt-leb (place + length text) (length l) over) (refl, refl)
+-- what trying to put a text after another leaves
+pub appended-tried : {E : Type 0} (r : Result (Unit {0}) E) (room : ℕ) (text l m : List ℕ) →
+    IsOk r ↔ (length l + length text ≤ room) → OnOk r (m ≡ l ++ text) → OnErr r (m ≡ l) → m ≡ appended room text l
+appended-tried (Ok x) room text l m variant ok err = ok ∙ sym (appended-fits room text l (variant.0 refl))
+appended-tried (Err e) room text l m variant ok err =
+    elim (dec_lt room (length l + length text)) [
+      | yes over ↦ err ∙ sym (appended-over room text l over)
+      | no fits ↦ let wrong : false ≡ true = variant.1 (omega arith) in cc
+    ]
+
+-- a separator, then digits
+pub figure-put : (separator number room : ℕ) (digits l m n : List ℕ) → number < 2 ^ 64 → digits ≡ Fmt.decimal number →
+    length digits < room - length l → m ≡ l ++ (separator ∷ []) → n ≡ appended room digits m → n ≡ appended room (figure separator number) l
+unfolding figure
+figure-put separator number room digits l m n small is fit first second =
+    let same : digits ≡ decimal number = is ∙ decimal-of number small in
+    let whole : n ≡ m ++ digits = second ∙ appended-fits room digits m (omega (arith, ap length first, length-append l (separator ∷ []))) in
+    let text : (l ++ (separator ∷ [])) ++ digits ≡ l ++ (separator ∷ digits) = append_assoc l (separator ∷ []) digits in
+    whole
+    ∙ ap (λ (t : List ℕ). t ++ digits) first
+    ∙ text
+    ∙ ap (λ (t : List ℕ). l ++ (separator ∷ t)) same
+    ∙ sym (appended-fits room (separator ∷ decimal number) l (omega (arith, ap length same)))
+
+pub figure-over : (separator number room : ℕ) (digits l : List ℕ) → number < 2 ^ 64 → digits ≡ Fmt.decimal number →
+    room - length l ≤ length digits → length l ≤ room → l ≡ appended room (figure separator number) l
+unfolding figure
+figure-over separator number room digits l small is over within =
+    let same : digits ≡ decimal number = is ∙ decimal-of number small in
+    sym (appended-over room (separator ∷ decimal number) l (omega (arith, ap length same)))
+
+-- a loop that puts figures into a line, which has room for them: before the first turn, and a turn
+pub figures-none : (separator : ℕ) (l : List ℕ) → l ≡ l ++ figures_of separator []
+unfolding figures_of
+figures-none separator l = sym (append-nil l)
+
+pub figures-next : (separator i : ℕ) (figures l m n : List ℕ) → i < length figures → length l + 21 * length figures ≤ 189 →
+    m ≡ l ++ figures_of separator (take i figures) → n ≡ appended 189 (figure separator (at figures i)) m →
+    n ≡ l ++ figures_of separator (take (i + 1) figures)
+figures-next separator i figures l m n inside fit before turn =
+    let some : List ℕ = figures_of separator (take i figures) in
+    let next : List ℕ = figure separator (at figures i) in
+    let fits : length m + length next ≤ 189 =
+    omega (
+      arith,
+      ap length before,
+      length-append l some,
+      length-figures separator (take i figures),
+      length-take-le i figures,
+      length-figure separator (at figures i),
+    ) in
+    turn
+    ∙ appended-fits 189 next m fits
+    ∙ ap (λ (t : List ℕ). t ++ next) before
+    ∙ append_assoc l some next
+    ∙ ap (λ (t : List ℕ). l ++ t) (sym (figures-turn separator figures i inside))
+
+-- the parts of a line, put into one that is empty
+module _ (label : List ℕ) (separator : ℕ) (figures l m n : List ℕ) (short : length label ≤ 20) (few : length figures ≤ 8) (empty : l ≡ [])
+    (first : m ≡ appended 189 label l) where
+  pub label-put : m ≡ label
+  label-put = first ∙ appended-fits 189 label l (omega (arith, ap length empty)) ∙ ap (λ (t : List ℕ). t ++ label) empty
+
+  pub label-room : length m + 21 * length figures ≤ 189
+  label-room = omega (arith, ap length label-put)
+
+  module _ (second : n ≡ m ++ figures_of separator figures) where
+    pub figures-room : length n < 189
+    figures-room = omega (arith, ap length second, ap length label-put, length-append m (figures_of separator figures), length-figures separator figures)
+
+    pub line-put : (whole : List ℕ) → whole ≡ n ++ (line_end ∷ []) → whole ≡ bounded_line label separator figures
+    unfolding line_of
+    line-put whole third =
+        third
+        ∙ ap (λ (t : List ℕ). t ++ (line_end ∷ [])) second
+        ∙ ap (λ (t : List ℕ). (t ++ figures_of separator figures) ++ (line_end ∷ [])) label-put
+        ∙ sym (line-stands label separator figures short few)
 
 -- no text
-pub put-nothing : (place : ℕ) (l : List ℕ) → PutWithin place [] place l l
-put-nothing place l = (
-  pick-by (λ (n : ℕ). place ≡ n) (has_room place [] l) (place + length {A = ℕ} []) place (λ _. omega arith) (λ _. refl),
-  pick-by (λ (m : List ℕ). l ≡ m) (has_room place [] l) (written place [] l) l (λ _. sym (written_none place l)) (λ _. refl),
-)
-
--- a byte
-pub byte_put : (place byte : ℕ) (l : List ℕ) → place < length l → PutWithin place (byte ∷ []) (place + 1) l (set l place byte)
-unfolding written
-byte_put place byte l fit = fits-put place (place + 1) (byte ∷ []) l (set l place byte) (omega arith) (refl, refl)
-
--- one text after another
-pub put_then : (place next after : ℕ) (t u l m n : List ℕ) → Put place t next l m → Put next u after m n → Put place (t ++ u) after l n
-put_then place next after t u l m n first second =
-    (omega (arith, first.0, second.0, length-append t u), written_then place next t u l m n first.0 first.1 second.1)
-
--- a separator, then the fewest digits
-pub figure-put : (separator number count place next after : ℕ) (text l m n : List ℕ) → number ≤ 18446744073709551615 →
-    IsDigitCount 10 1 number count → take count text ≡ last_digits 10 count number →
-    Put place (separator ∷ []) next l m → Put next (take count text) after m n →
-    Put place (figure separator number) after l n
-unfolding figure
-figure-put separator number count place next after text l m n most fewest spelled first second =
-    let same : take count text ≡ decimal number = spelled_is number count (take count text) most fewest spelled in
-    put_then place next after (separator ∷ []) (decimal number) l m n first
-    (omega (arith, second.0, ap length same), second.1 ∙ ap (λ (t : List ℕ). written next t m) same)
-
--- a separator and the fewest digits, in bytes
-pub length-figure-is : (separator number count : ℕ) (text : List ℕ) → number ≤ 18446744073709551615 →
-    IsDigitCount 10 1 number count → take count text ≡ last_digits 10 count number → count ≡ length (take count text) →
-    length (figure separator number) ≡ count + 1
-unfolding figure
-length-figure-is separator number count text most fewest spelled whole =
-    let same : take count text ≡ decimal number = spelled_is number count (take count text) most fewest spelled in
-    omega (arith, ap length same)
-
--- a figure that there is room for
-pub figure-fits : (separator number place next : ℕ) (l m : List ℕ) → place + 21 ≤ length l →
-    PutWithin place (figure separator number) next l m → Put place (figure separator number) next l m
-figure-fits separator number place next l m fit p =
-    put-fits place next (figure separator number) l m (omega (arith, length-figure separator number)) p
-
--- a loop that writes figures: before the first turn, and a turn
-pub figures-none : (separator place : ℕ) (l : List ℕ) → Put place (figures_of separator []) place l l
-unfolding figures_of
-figures-none separator place l = (omega arith, sym (written_none place l))
-
-pub put-figures-turn : (separator : ℕ) (numbers : List ℕ) (i place next after : ℕ) (l m n : List ℕ) → i < length numbers →
-    Put place (figures_of separator (take i numbers)) next l m → Put next (figure separator (at numbers i)) after m n →
-    Put place (figures_of separator (take (i + 1) numbers)) after l n
-put-figures-turn separator numbers i place next after l m n inside first second =
-    rw (figures-turn separator numbers i inside)
-    (put_then place next after (figures_of separator (take i numbers)) (figure separator (at numbers i)) l m n first second)
-
--- the parts of a line
-line-parts : (label : List ℕ) (separator : ℕ) (numbers : List ℕ) (p q after : ℕ) (l a b n : List ℕ) →
-    Put 0 label p l a → Put p (figures_of separator numbers) q a b → Put q (line_end ∷ []) after b n → Put 0 (line_of label separator numbers) after l n
-unfolding line_of
-line-parts label separator numbers p q after l a b n one two three =
-    put_then 0 q after (label ++ figures_of separator numbers) (line_end ∷ []) l b n
-    (put_then 0 p q label (figures_of separator numbers) l a b one two)
-    three
-
-pub line-put : (label : List ℕ) (separator : ℕ) (numbers : List ℕ) (p q after : ℕ) (l a b n : List ℕ) → length label ≤ 20 → length numbers ≤ 8 →
-    Put 0 label p l a → Put p (figures_of separator numbers) q a b → Put q (line_end ∷ []) after b n →
-    (after ≡ length (line_of label separator numbers)) × (n ≡ written 0 (line_of label separator numbers) l) × (after ≤ 189)
-line-put label separator numbers p q after l a b n short few one two three =
-    let whole : Put 0 (line_of label separator numbers) after l n = line-parts label separator numbers p q after l a b n one two three in
-    (omega (arith, whole.0), whole.1, omega (arith, whole.0, length-line label separator numbers))
-
--- what `line` leaves: nothing written, or a line
-abbrev pub Lined : List ℕ → ℕ → List ℕ → ℕ → List ℕ → List ℕ → Type 0
-Lined label separator numbers r l n = Starts (bounded_line label separator numbers) r l n
-
-nothing-lined : (label : List ℕ) (separator : ℕ) (numbers l : List ℕ) → bounded_line label separator numbers ≡ [] → Lined label separator numbers 0 l l
-nothing-lined label separator numbers l e =
-    (ap length (sym e), sym (ap (λ (t : List ℕ). written 0 t l) e ∙ written_none 0 l), (omega arith, refl))
-
-module _ (label : List ℕ) (separator : ℕ) (numbers : List ℕ) where
-  pub label-refused : (l : List ℕ) → 20 < length label → Lined label separator numbers 0 l l
-  label-refused l long = nothing-lined label separator numbers l (label-over label separator numbers long)
-
-  pub figures-refused : (l : List ℕ) → 8 < length numbers → Lined label separator numbers 0 l l
-  figures-refused l many = nothing-lined label separator numbers l (figures-over label separator numbers many)
-
-  pub line-done : (r : ℕ) (l n : List ℕ) → length l ≡ 189 → length label ≤ 20 → length numbers ≤ 8 →
-      (r ≡ length (line_of label separator numbers)) × (n ≡ written 0 (line_of label separator numbers) l) × (r ≤ 189) →
-      Lined label separator numbers r l n
-  line-done r l n long short few put =
-      let same : line_of label separator numbers ≡ bounded_line label separator numbers = sym (line-stands label separator numbers short few) in
-      let within : r ≤ length n = omega (arith, put.2, ap length put.1, length-written 0 (line_of label separator numbers) l, long) in (
-        put.0 ∙ ap length same,
-        put.1 ∙ ap (λ (t : List ℕ). written 0 t l) same,
-        (within, sym (length-take-le r n within)),
-      )
-
--- a text that stands at the start of bytes is their first part
-pub start-part : (text : List ℕ) (count : ℕ) (l m : List ℕ) → length text ≤ length l → Starts text count l m → take count m ≡ text
-start-part text count l m fit s =
-    ap (λ (k : ℕ). take k m) s.0
-    ∙ ap (take (length text)) (s.1 ∙ written_is 0 text l (omega (arith, fit)))
-    ∙ take-append_seam text (drop (0 + length text) l)
+pub appended-nothing : (room : ℕ) (l : List ℕ) → l ≡ appended room [] l
+unfolding appended
+appended-nothing room l = pick-by (λ (m : List ℕ). l ≡ m) (leb (length l + 0) room) (l ++ []) l (λ _. sym (append-nil l)) (λ _. refl)

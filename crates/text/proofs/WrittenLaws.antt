@@ -1,12 +1,10 @@
 -- What writing text by text does.
-use Prim.Native.Nat.{ℕ, ◌+◌, ◌≤◌, ◌<◌}
-use mathlib.Core.Path.{◌≡◌, refl, sym, ap, ◌∙◌}
-use mathlib.Core.List.{List, [], ◌∷◌, ◌++◌}
-use native.Mathlib.Numerals.{add-one}
+use Prim.Native.Nat.{ℕ, ◌+◌, ◌≤◌}
+use mathlib.Core.Path.{◌≡◌, refl, ap, ◌∙◌}
+use mathlib.Core.List.{List, [], ◌++◌}
 use native.Mathlib.Omega.{arith}
-use lib.ListN.{length, set, take, drop}
-use lib.Seq.{length-sets, sets-eq, take-suc, length-take-le}
-use Rattle.base.specs.Words.{at}
+use lib.ListN.{length, length-append, take, drop}
+use lib.Seq.{length-sets, sets-eq}
 use Rattle.base.proofs.WordLaws.{sets_more}
 use Rattle.text.specs.Written.{written}
 
@@ -38,11 +36,8 @@ written_then place next t u l m n e first second =
     ∙ ap (written (place + length t) u) first
     ∙ written-more place t u l
 
--- a turn of a loop that writes a list's elements
-pub elements-turn : (place i : ℕ) (digits l m : List ℕ) → i < length digits → m ≡ written place (take i digits) l →
-    set m (place + i) (at digits i) ≡ written place (take (i + 1) digits) l
-unfolding written
-elements-turn place i digits l m k e =
-    let size : place + i ≡ place + length (take i digits) = omega (arith, length-take-le i digits (omega arith)) in
-    written_then place (place + i) (take i digits) (at digits i ∷ []) l m _ size e refl
-    ∙ ap (λ (t : List ℕ). written place t l) (sym (take-suc digits i 0 k) ∙ ap (λ (j : ℕ). take j digits) (sym (add-one i)))
+-- the same with the place after each text
+pub put_then : (place next after : ℕ) (t u l m n : List ℕ) → (next ≡ place + length t) × (m ≡ written place t l) →
+    (after ≡ next + length u) × (n ≡ written next u m) → (after ≡ place + length (t ++ u)) × (n ≡ written place (t ++ u) l)
+put_then place next after t u l m n first second =
+    (omega (arith, first.0, second.0, length-append t u), written_then place next t u l m n first.0 first.1 second.1)

@@ -9,7 +9,7 @@ mod writing;
 pub use comparing::same;
 pub use pieces::{before, piece_end};
 pub use reading::read_number;
-pub use writing::{line, put, put_figure, put_line, put_within};
+pub use writing::{line, put_figure, put_line, put_text};
 
 // A line has a label of at most 20 bytes, at most 8 figures of at most 20 digits, each after a
 // separator, and a line end.

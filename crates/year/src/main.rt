@@ -11,6 +11,7 @@ mod running;
 ghost use Rattle.std.specs.Prelude.{◌≤◌};
 ghost use Rattle.journal.specs.Sizes.{most_calls};
 
+use arrayvec::ArrayVec;
 use base::limits::{MOST_SHEET_BYTES, STATE_WORDS};
 use input::{Read, has_argument};
 use journal::sizes::{ANSWERS_WORDS, CALLS_WORDS, MOST_JOURNAL_BYTES};
@@ -133,17 +134,17 @@ fn print_year(
 ) -> bool
     requires { count ≤ most_calls }
 {
-    let mut out = [0u8; TEXT_BYTES];
+    let mut text = ArrayVec::new();
     let opened = opening::open(sheet, state);
     if opened.refusal != 0 {
-        let refused = year_text::answers_text(&[opened.refusal as u64, 0, 0], &mut out);
-        output::write(stdout, stderr, &out, refused);
+        year_text::answers_text(&[opened.refusal as u64, 0, 0], &mut text);
+        output::write(stdout, stderr, text.as_slice());
         return false;
     }
-    if !running::run_all(stdout, stderr, calls, count, state, answers, &mut out) {
+    if !running::run_all(stdout, stderr, calls, count, state, answers, &mut text) {
         return false;
     }
-    print_figures(stdout, stderr, state, calls, answers, count, &mut out)
+    print_figures(stdout, stderr, state, calls, answers, count, &mut text)
 }
 
 // Prints what a control room asks for of every intertie and every holder. Answers whether it was printed whole.
@@ -154,12 +155,12 @@ fn print_figures(
     calls: &[u32; CALLS_WORDS],
     answers: &[u64; ANSWERS_WORDS],
     count: usize,
-    out: &mut [u8; TEXT_BYTES],
+    text: &mut ArrayVec<u8, TEXT_BYTES>,
 ) -> bool {
-    let interties = year_text::interties_text(state, out);
-    if !output::write(stdout, stderr, out, interties) {
+    year_text::interties_text(state, text);
+    if !output::write(stdout, stderr, text.as_slice()) {
         return false;
     }
-    let holders = year_text::holders_text(state, calls, answers, count, out);
-    output::write(stdout, stderr, out, holders)
+    year_text::holders_text(state, calls, answers, count, text);
+    output::write(stdout, stderr, text.as_slice())
 }

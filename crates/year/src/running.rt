@@ -6,6 +6,7 @@ ghost use Rattle.year.specs.Year.{YearRan};
 ghost use Rattle.year.specs.Workers.Stretches.{Ran, OneClosing};
 
 use super::output;
+use arrayvec::ArrayVec;
 use base::encoding;
 use base::encoding::{ANSWER_WORDS, CALL_WORDS};
 use base::limits::GRANTS_WORDS;
@@ -20,7 +21,7 @@ pub(super) fn run_all(
     count: usize,
     state: &mut [u32],
     answers: &mut [u64],
-    out: &mut [u8; TEXT_BYTES],
+    text: &mut ArrayVec<u8, TEXT_BYTES>,
 ) -> bool
     requires { (call_words * count ≤ length calls.now) × (answer_words * count ≤ length answers.old) }
     ensures { let words = calls.now in let s = state.old in let a = answers.old in
@@ -31,7 +32,7 @@ pub(super) fn run_all(
         let end = stretch_end(calls, first, count);
         let words = &calls[CALL_WORDS * first..CALL_WORDS * end];
         let room = &mut answers[ANSWER_WORDS * first..ANSWER_WORDS * end];
-        if !run_stretch(stdout, stderr, words, state, room, out) {
+        if !run_stretch(stdout, stderr, words, state, room, text) {
             return false;
         }
         first = end;
@@ -63,7 +64,7 @@ fn run_stretch(
     calls: &[u32],
     state: &mut [u32],
     answers: &mut [u64],
-    out: &mut [u8; TEXT_BYTES],
+    text: &mut ArrayVec<u8, TEXT_BYTES>,
 ) -> bool
     ensures { let words = calls.now in let s = state.old in let a = answers.old in
         (result ≡ true → Ran words s a state.new answers.new) }
@@ -72,11 +73,11 @@ fn run_stretch(
     if !lists::run_calls(calls, state, &mut grants, answers) {
         return false;
     }
-    let answered = year_text::answers_text(answers, out);
-    if !output::write(stdout, stderr, out, answered) {
+    year_text::answers_text(answers, text);
+    if !output::write(stdout, stderr, text.as_slice()) {
         return false;
     }
     let interties = state::intertie_count(state) as usize;
-    let granted = year_text::grants_text(&grants, interties, out);
-    output::write(stdout, stderr, out, granted)
+    year_text::grants_text(&grants, interties, text);
+    output::write(stdout, stderr, text.as_slice())
 }

@@ -1,13 +1,17 @@
 -- How long the lines are, and the lines by cases.
-use Prim.Native.Nat.{ℕ, ◌≤◌}
+use Prim.Native.Nat.{ℕ, ◌*◌, ◌≤◌, ◌<◌}
+use mathlib.Core.Path.{◌≡◌, refl, ap, ◌∙◌}
 use mathlib.Core.List.{List, [], ◌∷◌}
 use native.Mathlib.Omega.{arith}
 use lib.Dec.{eqb}
-use lib.ListN.{length}
+use lib.ListN.{length, get_or}
+use Rattle.std.specs.Simd.{first_chunks}
+use Rattle.base.specs.Words.{at}
 use Rattle.base.proofs.ChoiceLaws.{pick-by}
 use Rattle.text.specs.Ascii.{ascii}
 use Rattle.text.specs.Lines.{blank, line}
 use Rattle.text.proofs.LineLaws.{length-line}
+use Rattle.control_room.proofs.ChunkLaws.{at-chunk}
 use Rattle.control_room.specs.Figures.{intertie_figures, holder_figures}
 use Rattle.year_text.specs.Text.{answer_line, answer_of, grant_line, grant_of, intertie_line, holder_line}
 
@@ -20,6 +24,14 @@ answer-line-few refusal kw passes =
 
 pub answer-few : (answers : List ℕ) (n : ℕ) → length (answer_of answers n) ≤ 45
 answer-few answers n = answer-line-few _ _ _
+
+-- the same answer, of the answers cut into three numbers each
+pub answer-chunk : (answers : List ℕ) (k n : ℕ) → n < k →
+    (let a = get_or (first_chunks 3 k answers) n [] in
+    answer_line (at a 0) (at a 1) (at a 2)) ≡ answer_of answers n
+answer-chunk answers k n inside =
+    let first : at (get_or (first_chunks 3 k answers) n []) 0 ≡ at answers (3 * n) = at-chunk 3 k n 0 answers inside (omega arith) ∙ ap (at answers) (omega arith) in
+    rw (first, at-chunk 3 k n 1 answers inside (omega arith), at-chunk 3 k n 2 answers inside (omega arith)) refl
 
 grant-line-few : (holder intertie kw : ℕ) → length (grant_line holder intertie kw) ≤ 65
 unfolding grant_line

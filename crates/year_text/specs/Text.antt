@@ -10,6 +10,10 @@ use Rattle.state.specs.Layout.{interties, holders}
 use Rattle.text.specs.Lines.{line, each}
 use Rattle.control_room.specs.Figures.{intertie_figures, holder_figures}
 
+-- the most bytes of a text, which each of these fits into
+abbrev pub text_bytes : ℕ
+text_bytes = 99840
+
 -- the most answers of a text
 abbrev pub most_answers : ℕ
 most_answers = 2048

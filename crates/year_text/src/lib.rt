@@ -1,14 +1,15 @@
-// What program `year` prints, as text. Each public function writes its lines at the start of the bytes it is lent and
-// answers how many bytes they are.
+// What program `year` prints, as text. Each public function makes its text in the room that it is lent, over what stood there.
 #![tactic(auto)]
 
-ghost use Rattle.text.specs.Written.{Starts, PutWithin};
-ghost use Rattle.year_text.specs.Text.{answer_line, answers_text, grant_line, grants_text};
+ghost use Rattle.std.specs.Prelude.{◌≡◌};
+ghost use Rattle.base.specs.Words.{at};
+ghost use Rattle.text.specs.Written.{appended};
+ghost use Rattle.year_text.specs.Text.{text_bytes, answer_line, answers_text, grant_line, grants_text};
 ghost use Rattle.year_text.specs.Text.{intertie_line, interties_text, holder_line, holders_text};
 
+use arrayvec::ArrayVec;
 use base::encoding::ANSWER_WORDS;
 use base::limits::{GRANTS_WORDS, MOST_HOLDERS, MOST_INTERTIES, STATE_WORDS};
-use base::numbers::shorter;
 use journal::sizes::{ANSWERS_WORDS, CALLS_WORDS};
 use text::put_line;
 
@@ -22,98 +23,70 @@ const GRANT_BYTES: usize = 65;
 pub const TEXT_BYTES: usize = GRANTS_WORDS * GRANT_BYTES;
 
 // The answers to calls, three numbers each, up to as many as a text has.
-pub fn answers_text(answers: &[u64], out: &mut [u8; TEXT_BYTES]) -> usize
-    ensures { Starts (answers_text answers.now) result out.old out.new }
+pub fn answers_text(answers: &[u64], text: &mut ArrayVec<u8, TEXT_BYTES>)
+    ensures { text.new.items ≡ answers_text answers.now }
 {
-    let count = shorter(answers.len() / ANSWER_WORDS, MOST_ANSWERS);
-    let bytes: &mut [u8] = out;
-    let mut next = 0;
-    let mut n = 0;
-    while n < count {
-        let first = ANSWER_WORDS * n;
-        next = put_answer(
-            answers[first],
-            answers[first + 1],
-            answers[first + 2],
-            bytes,
-            next,
-        );
-        n += 1;
+    text.clear();
+    let (answers, _) = answers.as_chunks::<ANSWER_WORDS>();
+    for n in 0..answers.len().min(MOST_ANSWERS) {
+        put_answer(&answers[n], text);
     }
-    next
 }
 
 // An answer: its refusal, or `ok`, its kW and its passes.
-fn put_answer(refusal: u64, kw: u64, passes: u64, out: &mut [u8], at: usize) -> usize
-    ensures { PutWithin at (answer_line refusal kw passes) result out.old out.new }
+fn put_answer(answer: &[u64; ANSWER_WORDS], text: &mut ArrayVec<u8, TEXT_BYTES>)
+    ensures { let a = answer.now in
+        text.new.items ≡ appended text_bytes (answer_line (at a 0) (at a 1) (at a 2)) text.old.items }
 {
+    let [refusal, kw, passes] = *answer;
     if refusal != 0 {
-        return put_line(b"R", b' ', &[refusal], out, at);
+        put_line(b"R", b' ', &[refusal], text);
+    } else {
+        put_line(b"ok", b' ', &[kw, passes], text);
     }
-    put_line(b"ok", b' ', &[kw, passes], out, at)
 }
 
 // The grants of a closing that are not 0: word h·I + i is holder h's on intertie i.
 pub fn grants_text(
     grants: &[u32; GRANTS_WORDS],
     interties: usize,
-    out: &mut [u8; TEXT_BYTES],
-) -> usize
-    ensures { Starts (grants_text grants.now interties) result out.old out.new }
+    text: &mut ArrayVec<u8, TEXT_BYTES>,
+)
+    ensures { text.new.items ≡ grants_text grants.now interties }
 {
+    text.clear();
     if interties == 0 {
-        return 0;
+        return;
     }
-    let bytes: &mut [u8] = out;
-    let mut next = 0;
-    let mut word = 0;
-    while word < GRANTS_WORDS {
-        next = put_grant(
-            word / interties,
-            word % interties,
-            grants[word],
-            bytes,
-            next,
-        );
-        word += 1;
+    for word in 0..GRANTS_WORDS {
+        put_grant(word / interties, word % interties, grants[word], text);
     }
-    next
 }
 
 // A grant, where it is not 0.
-fn put_grant(holder: usize, intertie: usize, kw: u32, out: &mut [u8], at: usize) -> usize
-    ensures { PutWithin at (grant_line holder intertie kw) result out.old out.new }
+fn put_grant(holder: usize, intertie: usize, kw: u32, text: &mut ArrayVec<u8, TEXT_BYTES>)
+    ensures { text.new.items ≡ appended text_bytes (grant_line holder intertie kw) text.old.items }
 {
-    if kw == 0 {
-        return at;
+    if kw != 0 {
+        let figures = [holder as u64, intertie as u64, kw as u64];
+        put_line(b"G", b' ', &figures, text);
     }
-    put_line(
-        b"G",
-        b' ',
-        &[holder as u64, intertie as u64, kw as u64],
-        out,
-        at,
-    )
 }
 
 // The figures of every intertie.
-pub fn interties_text(state: &[u32; STATE_WORDS], out: &mut [u8; TEXT_BYTES]) -> usize
-    ensures { Starts (interties_text state.now) result out.old out.new }
+pub fn interties_text(state: &[u32; STATE_WORDS], text: &mut ArrayVec<u8, TEXT_BYTES>)
+    ensures { text.new.items ≡ interties_text state.now }
 {
-    let count = shorter(state::intertie_count(state) as usize, MOST_INTERTIES);
-    let bytes: &mut [u8] = out;
-    let mut next = 0;
-    let mut intertie = 0;
-    while intertie < count {
-        next = put_intertie(state, intertie as u32, bytes, next);
-        intertie += 1;
+    text.clear();
+    let count = state::intertie_count(state).min(MOST_INTERTIES as u32);
+    for intertie in 0..count {
+        put_intertie(state, intertie, text);
     }
-    next
 }
 
 // The figures of an intertie.
-fn put_intertie(state: &[u32; STATE_WORDS], intertie: u32, out: &mut [u8], at: usize) -> usize
-    ensures { PutWithin at (intertie_line state.now intertie) result out.old out.new }
+fn put_intertie(state: &[u32; STATE_WORDS], intertie: u32, text: &mut ArrayVec<u8, TEXT_BYTES>)
+    ensures { text.new.items ≡ appended text_bytes (intertie_line state.now intertie) text.old.items }
 {
     let figures = control_room::intertie_figures(state, intertie);
     let numbers = [
@@ -125,7 +98,7 @@ fn put_intertie(state: &[u32; STATE_WORDS], intertie: u32, out: &mut [u8], at: u
         figures.taken,
         figures.unassigned,
     ];
-    put_line(b"I", b' ', &numbers, out, at)
+    put_line(b"I", b' ', &numbers, text);
 }
 
 // The figures of every holder, with the trades of the first `count` calls.
@@ -134,20 +107,15 @@ pub fn holders_text(
     calls: &[u32; CALLS_WORDS],
     answers: &[u64; ANSWERS_WORDS],
     count: usize,
-    out: &mut [u8; TEXT_BYTES],
-) -> usize
-    ensures { let text = holders_text state.now calls.now answers.now count in
-        Starts text result out.old out.new }
+    text: &mut ArrayVec<u8, TEXT_BYTES>,
+)
+    ensures { text.new.items ≡ holders_text state.now calls.now answers.now count }
 {
-    let end = shorter(state::holder_count(state) as usize, MOST_HOLDERS);
-    let bytes: &mut [u8] = out;
-    let mut next = 0;
-    let mut holder = 0;
-    while holder < end {
-        next = put_holder(state, calls, answers, count, holder as u32, bytes, next);
-        holder += 1;
+    text.clear();
+    let end = state::holder_count(state).min(MOST_HOLDERS as u32);
+    for holder in 0..end {
+        put_holder(state, calls, answers, count, holder, text);
     }
-    next
 }
 
 // The figures of a holder.
@@ -157,11 +125,10 @@ fn put_holder(
     answers: &[u64; ANSWERS_WORDS],
     count: usize,
     holder: u32,
-    out: &mut [u8],
-    at: usize,
-) -> usize
-    ensures { let text = holder_line state.now calls.now answers.now count holder in
-        PutWithin at text result out.old out.new }
+    text: &mut ArrayVec<u8, TEXT_BYTES>,
+)
+    ensures { let line = holder_line state.now calls.now answers.now count holder in
+        text.new.items ≡ appended text_bytes line text.old.items }
 {
     let figures = control_room::holder_figures(state, calls, answers, count, holder);
     let numbers = [
@@ -174,5 +141,5 @@ fn put_holder(
         figures.reserved,
         figures.locked,
     ];
-    put_line(b"H", b' ', &numbers, out, at)
+    put_line(b"H", b' ', &numbers, text);
 }

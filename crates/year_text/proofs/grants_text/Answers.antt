@@ -1,34 +1,22 @@
-use Rattle.base.proofs.Prelude.{refl, arith, rules}
+use Rattle.base.proofs.Prelude.{[], arith, ◌∙◌}
 use borrow.Author.Tests.{eq-eqb, ne_eqb}
-use Rattle.text.proofs.EachLaws.{put-none, nothing-starts, each_turn, each-starts}
+use Rattle.text.proofs.EachLaws.{each-none, each_turn, each-end}
 use Rattle.year_text.specs.Text.{grant_of, grants_text}
 use Rattle.year_text.proofs.TextLaws.{grant-few}
 use Rattle.year_text.proofs.grants_text.Goals as goal
 
 pub returns-then-interties-eq0 : goal.returns-then-interties-eq0
 unfolding grants_text
-returns-then-interties-eq0 c =
-    let a = c.args in
-    nothing-starts _ _ (rw (eq-eqb a.interties 0 c.if-interties-eq0.true) refl)
+returns-then-interties-eq0 c = rw (eq-eqb c.args.interties 0 c.if-interties-eq0.true) c.clear.ensures
+
+pub loop-word-init : goal.loop-word-init
+loop-word-init c = c.clear.ensures ∙ each-none _ _
 
 pub loop-word-preserved : goal.loop-word-preserved
 loop-word-preserved c =
     let a = c.args in
-    let t = c.loop-word in (
-      search rules,
-      t.invariant.1,
-      each_turn 65 (grant_of a.grants.now a.interties) (grant-few a.grants.now a.interties) t.word t.next _ _ t.bytes _
-          (omega (arith, t.invariant.1)) t.invariant.2 c.put_grant-next.ensures,
-    )
+    each_turn 65 (grant_of a.grants.now a.interties) (grant-few a.grants.now a.interties) 99840 c.loop-word.word [] _ _ (omega arith) c.loop-word.invariant c.put_grant.ensures
 
 pub returns : goal.returns
 unfolding grants_text
-returns c =
-    let a = c.args in
-    let t = c.loop-word in
-    each-starts 65 (grant_of a.grants.now a.interties) (grant-few a.grants.now a.interties) t.word 1536 _ _ t.bytes t.next
-    (omega arith) (omega (arith, t.invariant.1))
-    (rw (ne_eqb a.interties 0 c.if-interties-eq0.false) refl) t.invariant.2
-
-pub loop-word-init : goal.loop-word-init
-loop-word-init c = (search rules, search rules, put-none _ _ _)
+returns c = rw (ne_eqb c.args.interties 0 c.if-interties-eq0.false) (each-end _ 1536 _ _ (omega arith) (omega arith) c.loop-word.invariant)

@@ -6,12 +6,8 @@ use Rattle.year_text.proofs.put_answer.Goals as goal
 
 pub returns-then-refusal-ne0 : goal.returns-then-refusal-ne0
 unfolding answer_line bounded_line
-returns-then-refusal-ne0 c =
-    rw (ne_eqb c.args.refusal 0 c.if-refusal-ne0.true)
-    c.put_line.ensures
+returns-then-refusal-ne0 c = rw (ne_eqb _ 0 c.if-refusal-ne0.true) c.put_line.ensures
 
-pub returns : goal.returns
+pub returns-else-refusal-ne0 : goal.returns-else-refusal-ne0
 unfolding answer_line bounded_line
-returns c =
-    rw (eq-eqb c.args.refusal 0 c.if-refusal-ne0.false)
-    c.put_line-2.ensures
+returns-else-refusal-ne0 c = rw (eq-eqb _ 0 c.if-refusal-ne0.false) c.put_line-else-refusal-ne0.ensures

@@ -1,14 +1,19 @@
--- `rows::put_line` meets its contract: the line is made in a buffer, then copied.
-use Rattle.base.proofs.Prelude.{ℕ, ap, subst, List, arith, length, rules}
+-- `rows::put_line` meets its contract: the line is made by itself, then copied.
+use Rattle.base.proofs.Prelude.{◌+◌, ◌≤◌, ap, ◌∙◌, arith, length, rules}
+use Rattle.text.proofs.LineLaws.{line-stands}
 use Rattle.sheet_table.specs.Fields.{comma}
-use Rattle.sheet_table.specs.Workers.Steps.{Put}
-use Rattle.text.proofs.PutLaws.{put-fits}
-use Rattle.sheet_table.proofs.RowLaws.{line-part}
+use Rattle.sheet_table.proofs.RowLaws.{line-copied}
 use Rattle.sheet_table.proofs.rows.put_line.Goals as goal
 
+pub slice_bounds-copy_from_slice-end : goal.slice_bounds-copy_from_slice-end
+slice_bounds-copy_from_slice-end c =
+    let a = c.args in
+    let line = c.line-line.ensures ∙ line-stands a.label.now comma a.figures.now c.requires.0 c.requires.1 in
+    let fits : a.at + c.len.result ≤ length a.out.now = omega (arith, c.requires.2, c.len.ensures.value, ap length line) in
+    search rules
+
 pub returns : goal.returns
-returns c = let a = c.args in
-    let line = c.line-count.ensures in
-    let made = line-part a.label.now comma a.figures.now _ _ _ (search rules) c.requires.0 c.requires.1 line.0 line.1 in
-    subst (λ (t : List ℕ). Put a.at t c.put_within.result a.out.now c.put_within.new.out) made
-    (put-fits _ _ _ _ _ (omega (arith, ap length made)) c.put_within.ensures)
+returns c =
+    let a = c.args in
+    line-copied a.label.now comma a.figures.now a.at c.len.result c.line-line.result.items c.copy_from_slice.new.self a.out.now c.requires.0 c.requires.1 c.line-line.ensures c.requires.2
+    c.len.ensures.value (c.copy_from_slice.ensures.after ∙ c.as_slice.ensures.value)

@@ -1,17 +1,10 @@
-use Rattle.base.proofs.Prelude.{ℕ, refl, ap, ◌∙◌, List, rules}
-use lib.Seq.{take_all}
-use Rattle.text.specs.Written.{written}
-use Rattle.text.proofs.WrittenLaws.{written_none, elements-turn}
+-- `put_text` meets its contract: the vector takes the text whole or not at all.
+use Rattle.base.proofs.Prelude.{ap}
+use Rattle.std.proofs.lemmas.Result.{on_err_weaker}
+use Rattle.text.proofs.PutLaws.{appended-tried}
 use Rattle.text.proofs.writing.put_text.Goals as goal
 
 pub returns : goal.returns
-returns c =
-    let a = c.args in
-    let t = c.loop-i in
-    (refl, t.invariant.2 ∙ ap (λ (u : List ℕ). written a.at u a.out.now) (take_all t.i a.text.now (search rules)))
-
-pub loop-i-init : goal.loop-i-init
-loop-i-init c = search (rules, written_none)
-
-pub loop-i-preserved : goal.loop-i-preserved
-loop-i-preserved c = search (rules, elements-turn)
+returns g c =
+    let tried = c.try_extend_from_slice.ensures in
+    appended-tried _ g.row.N c.args.text.now c.args.out.now.items _ tried.variant tried.ok (on_err_weaker _ (ap (λ v. v.items)) tried.err)
