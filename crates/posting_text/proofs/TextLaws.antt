@@ -21,15 +21,15 @@ intertie-few l i =
     omega (
       arith,
       length-line (letter_i ∷ []) blank (
-      i
-      ∷ at l (place 0 i)
-      ∷ at l (place 1 i)
-      ∷ at l (place 2 i)
-      ∷ at l (place 3 i)
-      ∷ at l (place 4 i)
-      ∷ at l (place 5 i)
-      ∷ []
-      ),
+          i
+          ∷ at l (place 0 i)
+          ∷ at l (place 1 i)
+          ∷ at l (place 2 i)
+          ∷ at l (place 3 i)
+          ∷ at l (place 4 i)
+          ∷ at l (place 5 i)
+          ∷ []
+          ),
     )
 
 pub holder-few : (l : List ℕ) (h : ℕ) → length (holder_by_rows l h) ≤ 149

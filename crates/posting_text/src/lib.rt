@@ -44,11 +44,7 @@ pub fn posting_text(sheet: &[u8]) -> ArrayVec<u8, TEXT_BYTES>
 }
 
 // The lines of the interties.
-fn put_interties(
-    numbers: &[u64; NUMBERS],
-    interties: usize,
-    text: &mut ArrayVec<u8, TEXT_BYTES>,
-)
+fn put_interties(numbers: &[u64; NUMBERS], interties: usize, text: &mut ArrayVec<u8, TEXT_BYTES>)
     requires { (interties ≤ most_interties) × (length text.old.items + long_bytes * interties ≤ text_bytes) }
     ensures { text.new.items ≡ text.old.items ++ each interties (intertie_by_rows numbers.now) }
 {
