@@ -1,6 +1,5 @@
 pub mod WrittenLaws
 pub mod PieceLaws
-pub mod SameLaws
 pub mod DecimalLaws
 pub mod ReadLaws
 pub mod LineLaws

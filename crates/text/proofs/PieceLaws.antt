@@ -4,17 +4,21 @@ use mathlib.Core.Path.{◌≡◌, refl, sym, ap, ◌∙◌}
 use mathlib.Core.Bool.{Bool, true, false}
 use mathlib.Core.Logic.{◌≢◌}
 use mathlib.Core.List.{List, [], ◌∷◌}
-use native.Mathlib.Numerals.{add-one}
 use native.Mathlib.Omega.{arith}
 use lib.Dec.{eqb, ltb, leb-suc-suc}
 use lib.ListN.{length, take, drop, length-drop}
-use lib.Seq.{drop-cons, take_all, length-take-le}
-use borrow.Author.Tests.{eqb-true, eqb-false, eq-eqb, ne_eqb, lt-ltb}
+use lib.Seq.{drop-drop, take_all, length-take-le}
+use borrow.Author.Tests.{eqb-true, eqb-false, eq-eqb, ne_eqb, lt-ltb, ltb-true, ltb-false, le-leb, lt-leb}
+use Rattle.std.specs.Prelude.{Option}
+use Rattle.std.specs.Option.{unwrap_or}
+use Rattle.std.specs.List.{position, position_or_len}
+use Rattle.std.proofs.lemmas.List.Recursion.{is_position_or_len}
 use Rattle.io.specs.Counts.{IsPrefixLen}
 use Rattle.base.specs.Choice.{pick}
 use Rattle.base.specs.Words.{at}
 use Rattle.base.proofs.ChoiceLaws.{pick-by}
 use Rattle.text.specs.Pieces.{before, fields}
+use Rattle.text.specs.Left.{fields_from}
 
 -- by cases of a test
 pub by-test : {P : Type 0} (b : Bool) → (b ≡ true → P) → (b ≡ false → P) → P
@@ -65,26 +69,25 @@ before_at separator (byte ∷ text) h =
     let later : before separator (byte ∷ text) ≡ suc (before separator text) = before-later separator byte text (eqb-false byte separator e) in
     rw later (before_at separator text (omega (arith, later))))
 
--- the loop of `before`: the bytes read so far are none, the next is one or none
+-- the library's search for the separator: the place that it finds, or the text's end
 counted : (n : ℕ) (l : List ℕ) → n ≤ length l → IsPrefixLen n l
 counted n l within = (within, sym (length-take-le n l within))
 
-module _ (separator : ℕ) (text : List ℕ) (i : ℕ) (so_far : before separator text ≡ i + before separator (drop i text)) where
-  pub before-found : i < length text → at text i ≡ separator → (i ≡ before separator text) × IsPrefixLen i text
-  before-found inside here =
-      let none : before separator (drop i text) ≡ 0 = rw (drop-cons text i 0 inside) (before_here separator (at text i) (drop (suc i) text) here) in
-      (omega arith, counted i text (omega arith))
+before-place : (separator : ℕ) (text : List ℕ) → before separator text ≡ position_or_len (λ byte. eqb byte separator) text
+unfolding before
+before-place separator text = is_position_or_len (before separator) (λ byte. eqb byte separator) refl (λ byte others. by-test (eqb byte separator) (λ e. rw e refl) (λ e. rw e (omega arith))) text
 
-  pub before-turn : i < length text → at text i ≢ separator → before separator text ≡ (i + 1) + before separator (drop (i + 1) text)
-  before-turn inside other =
-      let one : before separator (drop i text) ≡ suc (before separator (drop (suc i) text)) =
-      rw (drop-cons text i 0 inside) (before-later separator (at text i) (drop (suc i) text) other) in
-      rw (add-one i) (omega arith)
-
-  pub before-all : length text ≤ i → i ≤ length text → (i ≡ before separator text) × IsPrefixLen i text
-  before-all end within =
-      let past : before separator text ≤ length text = before-le separator text in
-      (omega arith, counted i text within)
+pub before_searched : (separator : ℕ) (text : List ℕ) (found : Option ℕ) → found ≡ position (λ byte. eqb byte separator) text →
+    (unwrap_or found (length text) ≡ before separator text) × IsPrefixLen (unwrap_or found (length text)) text
+before_searched separator text found is =
+    let same : unwrap_or found (length text) ≡ before separator text = ap (λ o. unwrap_or o (length text)) is ∙ whole in
+    (same, counted _ text (omega (arith, same, before-le separator text)))
+  where
+    whole : unwrap_or (position (λ byte. eqb byte separator) text) (length text) ≡ before separator text
+    whole = rw (← before-place separator text)
+        (by-test (ltb (before separator text) (length text))
+        (λ e. rw e refl)
+        (λ e. rw e (omega (arith, before-le separator text, ltb-false (before separator text) (length text) e))))
 
 -- the first piece is what stands before the first separator; the others are the pieces of what stands after it
 abbrev pub pieces_after : ℕ → List ℕ → List (List ℕ)
@@ -115,3 +118,31 @@ pub piece-past : (separator from : ℕ) (text : List ℕ) → length text < from
 piece-past separator from text past =
     let none : before separator (drop from text) ≤ 0 = omega (arith, before-le separator (drop from text), length-drop from text) in
     (omega arith, omega arith, omega arith)
+
+-- the pieces that are left: past the text none, else the next one before the others
+pub left_past : (separator from : ℕ) (text : List ℕ) → length text < from → fields_from separator from text ≡ []
+unfolding fields_from
+left_past separator from text past = rw (lt-leb from (length text) past) refl
+
+pub left_all : (separator : ℕ) (text : List ℕ) → fields_from separator 0 text ≡ fields separator text
+unfolding fields_from
+left_all separator text = rw (le-leb 0 (length text) zero-le) refl
+
+module _ (separator from end : ℕ) (text : List ℕ) (inside : from ≤ length text) (e : end ≡ from + before separator (drop from text)) where
+  pub left_next : fields_from separator from text ≡ take (end - from) (drop from text) ∷ fields_from separator (end + 1) text
+  unfolding fields_from
+  left_next =
+      let n : before separator (drop from text) ≡ end - from = omega arith in
+      let after : from + suc (before separator (drop from text)) ≡ end + 1 = omega arith in
+      let size : length (drop from text) ≡ length text - from = length-drop from text in
+      rw (le-leb from (length text) inside)
+      (fields-is separator (drop from text)
+      ∙ by-test (ltb (before separator (drop from text)) (length (drop from text)))
+      (λ t.
+      let some : end + 1 ≤ length text = omega (arith, ltb-true (before separator (drop from text)) (length (drop from text)) t) in
+      let rest : drop (suc (before separator (drop from text))) (drop from text) ≡ drop (end + 1) text =
+      drop-drop (suc (before separator (drop from text))) from text ∙ ap (λ (k : ℕ). drop k text) after in
+      rw (t, le-leb (end + 1) (length text) some, rest, n) refl)
+      (λ f.
+      let none : length text < end + 1 = omega (arith, ltb-false (before separator (drop from text)) (length (drop from text)) f) in
+      rw (f, lt-leb (end + 1) (length text) none, n) refl))

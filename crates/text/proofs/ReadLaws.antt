@@ -1,20 +1,22 @@
 -- What the digits of a text are as a number: digit by digit, and read back from the decimal text.
 use Prim.Native.Nat.{ℕ, zero, suc, ◌+◌, ◌-◌, ◌*◌, ◌/◌, ◌%◌, ◌^◌, ◌≤◌, ◌<◌}
 use mathlib.Core.Path.{◌≡◌, refl, sym, ap, ◌∙◌}
-use mathlib.Core.Bool.{true, false}
+use mathlib.Core.Bool.{true, false, ◌&&◌}
+use Rattle.std.specs.List.{list_all}
 use mathlib.Core.List.{List, [], ◌∷◌, ◌++◌}
 use native.Mathlib.Nat.{pow-suc, add-mul, mul_assoc, one-le-pow, mul-le-mul}
 use native.Mathlib.Numerals.{add-one}
 use native.Mathlib.Omega.{arith}
 use lib.Dec.{ltb, leb}
 use lib.Pow.{pow-add}
-use lib.ListN.{length, length-append, take, drop, take-append-drop, drop_of_length-le}
-use lib.Seq.{take-suc, drop-cons}
+use lib.ListN.{length, length-append, take, drop, take-append-drop}
+use lib.Seq.{take-suc}
 use borrow.Author.Tests.{leb-true, le-leb, ltb-true, lt-ltb, le-ltb}
 use Rattle.base.specs.Words.{at}
 use Rattle.base.proofs.ChoiceLaws.{and_left, and_right, and_both, and-false, pick-by}
 use Rattle.text.specs.Decimal.{digit, decimal, decimal_to, is_digit, all_digits, value, number_of}
-use Rattle.text.specs.declared.Number.TheVariants.{Value, Over, Bad}
+use Rattle.std.specs.Prelude.{Ok, Err}
+use Rattle.text.specs.declared.reading.NumberError.TheVariants.{Over, Bad}
 
 -- the value of digits after others
 pub value-append : (t u : List ℕ) → value (t ++ u) ≡ value t * 10 ^ length u + value u
@@ -61,36 +63,28 @@ digit-range text all i h =
     let e : is_digit (at text i) ≡ true = digits-at text all i h in
     (leb-true 48 (at text i) (and_left (leb 48 (at text i)) (leb (at text i) 57) e), leb-true (at text i) 57 (and_right (leb 48 (at text i)) (leb (at text i) 57) e))
 
--- the loop of `all_digits`: what is left decides
-module _ (text : List ℕ) (i : ℕ) (so_far : all_digits text ≡ all_digits (drop i text)) where
-  pub digits-fail : i < length text → is_digit (at text i) ≡ false → false ≡ all_digits text
-  unfolding all_digits
-  digits-fail inside no_digit = sym (so_far ∙ rw (drop-cons text i 0 inside, no_digit) refl)
-
-  pub digits-turn : i < length text → is_digit (at text i) ≡ true → all_digits text ≡ all_digits (drop (i + 1) text)
-  unfolding all_digits
-  digits-turn inside one = so_far ∙ rw (drop-cons text i 0 inside, one, add-one i) refl
-
-  pub digits-end : length text ≤ i → true ≡ all_digits text
-  unfolding all_digits
-  digits-end end = sym (so_far ∙ rw (drop_of_length-le text {i = i} end) refl)
+-- a test of every byte is one of every digit
+pub digits-all : (text : List ℕ) → list_all is_digit text ≡ all_digits text
+unfolding all_digits
+digits-all [] = refl
+digits-all (byte ∷ text) = ap (λ b. is_digit byte && b) (digits-all text)
 
 -- what a text is as a number, by cases
 module _ (text : List ℕ) where
-  pub number-empty : length text ≡ 0 → Bad ≡ number_of text
+  pub number-empty : length text ≡ 0 → Err Bad ≡ number_of text
   unfolding number_of
   number-empty e = rw e refl
 
-  pub number-bad : false ≡ all_digits text → Bad ≡ number_of text
+  pub number-bad : false ≡ all_digits text → Err Bad ≡ number_of text
   unfolding number_of
   number-bad e = rw (← e, and-false (ltb 0 (length text)) false refl) refl
 
   module _ (some : 0 < length text) (all : all_digits text ≡ true) where
-    pub number-over : 2 ^ 32 ≤ value text → Over ≡ number_of text
+    pub number-over : 2 ^ 32 ≤ value text → Err Over ≡ number_of text
     unfolding number_of
     number-over large = rw (all, lt-ltb 0 (length text) some, le-ltb (value text) (2 ^ 32) large) refl
 
-    pub number-value : (n : ℕ) → n ≡ value text → n < 2 ^ 32 → Value n ≡ number_of text
+    pub number-value : (n : ℕ) → n ≡ value text → n < 2 ^ 32 → Ok n ≡ number_of text
     unfolding number_of
     number-value n e small = rw (all, lt-ltb 0 (length text) some, ← e, lt-ltb n (2 ^ 32) small) refl
 
@@ -136,5 +130,5 @@ some-decimal (suc k) n =
     (λ _. omega arith)
     (λ _. omega (arith, length-append (decimal_to k (n / 10)) (digit (n % 10) ∷ [])))
 
-pub read_back : (n : ℕ) → n < 2 ^ 32 → number_of (decimal n) ≡ Value n
+pub read_back : (n : ℕ) → n < 2 ^ 32 → number_of (decimal n) ≡ Ok n
 read_back n small = sym (number-value (decimal n) (some-decimal 19 n) (digits_decimal 19 n) n (sym (value-decimal 19 n (omega arith))) small)

@@ -1,9 +1,9 @@
 -- Numbers as decimal digits in bytes: how one is written, and what number a text is.
-use Rattle.std.specs.Prelude.{ℕ, zero, suc, ◌+◌, ◌-◌, ◌*◌, ◌/◌, ◌%◌, ◌^◌, Bool, true, ◌&&◌, List, [], ◌∷◌, ◌++◌, ltb, leb, length}
+use Rattle.std.specs.Prelude.{ℕ, zero, suc, ◌+◌, ◌-◌, ◌*◌, ◌/◌, ◌%◌, ◌^◌, Bool, true, ◌&&◌, List, [], ◌∷◌, ◌++◌, ltb, leb, length, Result, Ok, Err}
 use Prim.Native.Char.{code}
 use Rattle.base.specs.Choice.{pick}
-use Rattle.text.specs.declared.Number.{Number}
-use Rattle.text.specs.declared.Number.TheVariants.{Value, Over, Bad}
+use Rattle.text.specs.declared.reading.NumberError.{NumberError}
+use Rattle.text.specs.declared.reading.NumberError.TheVariants.{Over, Bad}
 
 -- the byte of digit d, in ASCII
 abbrev pub digit : ℕ → ℕ
@@ -33,6 +33,6 @@ value [] = 0
 value (byte ∷ text) = (byte - digit 0) * 10 ^ length text + value text
 
 -- what a text is as a number of 32 bits: Bad where it is empty or has a byte that is no digit, Over from 2 ^ 32 on
-unfoldable pub number_of : List ℕ → Number
+unfoldable pub number_of : List ℕ → Result ℕ NumberError
 number_of text =
-    pick (ltb 0 (length text) && all_digits text) (pick (ltb (value text) (2 ^ 32)) (Value (value text)) Over) Bad
+    pick (ltb 0 (length text) && all_digits text) (pick (ltb (value text) (2 ^ 32)) (Ok (value text)) (Err Over)) (Err Bad)

@@ -3,3 +3,4 @@ pub mod Written
 pub mod Decimal
 pub mod Pieces
 pub mod Lines
+pub mod Left

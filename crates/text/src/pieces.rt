@@ -1,20 +1,17 @@
-// Where a text has its separators.
+// Where a text has its separators, and its pieces between them.
 ghost use Rattle.std.specs.Prelude.{◌≡◌, ◌+◌, ◌-◌, ◌≤◌, length, drop};
+ghost use Rattle.std.specs.Iterator.{YieldsFirstBy, item_count};
 ghost use Rattle.io.specs.Counts.{IsPrefixLen};
-ghost use Rattle.text.specs.Pieces.{before};
+ghost use Rattle.text.specs.Pieces.{before, fields};
+ghost use Rattle.text.specs.Left.{pieces_left};
 
 // How many bytes stand before the first separator; all of them where there is none.
 pub fn before(text: &[u8], separator: u8) -> usize
     ensures { (result ≡ before separator text.now) × IsPrefixLen result text.now }
 {
-    let mut i = 0;
-    while i < text.len() {
-        if text[i] == separator {
-            return i;
-        }
-        i += 1;
-    }
-    i
+    text.iter()
+        .position(|byte| *byte == separator)
+        .unwrap_or(text.len())
 }
 
 // Where the piece that starts at a place ends: at the first separator from there on, or with the text. Past the
@@ -27,4 +24,41 @@ pub fn piece_end(text: &[u8], from: usize, separator: u8) -> usize
         return from;
     }
     from + before(&text[from..], separator)
+}
+
+// The pieces of a text between its separators, one after the other: those from a place on are left, none past the text.
+#[derive(Drop)]
+pub struct Pieces<'a> {
+    text: &'a [u8],
+    from: usize,
+    separator: u8,
+}
+
+// All pieces of a text, one more than it has separators.
+pub fn split(text: &[u8], separator: u8) -> Pieces<'_>
+    ensures { pieces_left result ≡ fields separator text.now }
+{
+    Pieces {
+        text,
+        from: 0,
+        separator,
+    }
+}
+
+impl<'a> Iterator for Pieces<'a> {
+    type Item = &'a [u8];
+
+    ghost next_gives = { YieldsFirstBy (λ piece. piece.now) pieces_left };
+
+    ghost remaining = { item_count pieces_left };
+
+    fn next(&mut self) -> Option<&'a [u8]> {
+        if self.text.len() < self.from {
+            return None;
+        }
+        let start = self.from;
+        let end = piece_end(self.text, start, self.separator);
+        self.from = end + 1;
+        Some(&self.text[start..end])
+    }
 }

@@ -1,18 +1,13 @@
-use Rattle.std.proofs.Common.{ap, not}
-use Rattle.base.proofs.Prelude.{sym, ◌∙◌, rules}
-use borrow.Author.Tests.{not-true, not-false}
-use Rattle.text.proofs.ReadLaws.{digits-fail, digits-turn, digits-end}
+-- `all_digits` meets its contract: the library's test of every byte.
+use Rattle.std.proofs.Common.{rules, ◌∙◌}
+use Rattle.std.proofs.lemmas.Iterator.{YieldsList-from_slice}
+use Rattle.std.proofs.lemmas.Iterator.Search.{all_from_yields_List}
+use Rattle.base.proofs.Rules.{tests}
+use Rattle.text.specs.Decimal.{is_digit}
+use Rattle.text.proofs.ReadLaws.{digits-all}
 use Rattle.text.proofs.reading.all_digits.Goals as goal
 
-pub returns-then-not-is_digit : goal.returns-then-not-is_digit
-returns-then-not-is_digit c =
-    let t = c.loop-i in
-    digits-fail c.args.text.now t.i t.invariant.1 (search rules) (sym c.is_digit.ensures ∙ not-true _ (ap not c.if-not-is_digit.true))
-
-pub loop-i-preserved : goal.loop-i-preserved
-loop-i-preserved c =
-    let t = c.loop-i in
-    (search rules, digits-turn c.args.text.now t.i t.invariant.1 (search rules) (sym c.is_digit.ensures ∙ not-false _ (ap not c.if-not-is_digit.false)))
-
 pub returns : goal.returns
-returns c = search (rules, digits-end)
+returns c =
+    all_from_yields_List is_digit _ _ c.all.result c.all.ensures.ran (YieldsList-from_slice c.args.text.now cc) (λ x b q k. search (rules, tests))
+    ∙ digits-all c.args.text.now
