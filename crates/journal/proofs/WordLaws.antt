@@ -1,23 +1,34 @@
 -- The words of a line, found one after the other.
-use Prim.Native.Nat.{ℕ, suc, ◌+◌, ◌-◌, ◌≤◌, ◌<◌, zero-le}
+use Prim.Native.Nat.{ℕ, suc, ◌-◌, ◌≤◌, ◌<◌, zero-le}
 use mathlib.Core.Path.{◌≡◌, refl, sym, ap, ◌∙◌}
-use mathlib.Core.Bool.{true, false}
+use mathlib.Core.Bool.{Bool, true, false, not}
 use mathlib.Core.Logic.{◌≢◌}
 use mathlib.Core.List.{List, [], ◌∷◌}
-use native.Mathlib.Numerals.{add-one}
 use native.Mathlib.Omega.{arith}
-use lib.Dec.{eqb}
+use lib.Dec.{eqb, ltb}
 use lib.ListN.{length, take, drop, length-drop}
-use lib.Seq.{drop-cons, drop-drop, take_all}
-use borrow.Author.Tests.{eq-eqb, ne_eqb}
-use Rattle.base.specs.Words.{at}
+use lib.Seq.{take_all}
+use borrow.Author.Tests.{eq-eqb, ne_eqb, ltb-true, ltb-false}
+use Rattle.std.specs.Prelude.{Option, Some, None}
+use Rattle.std.specs.Option.{unwrap_or}
+use Rattle.std.specs.List.{position, position_or_len}
+use Rattle.std.proofs.lemmas.List.Recursion.{is_position_or_len}
+use Rattle.base.specs.Choice.{pick}
 use Rattle.base.proofs.ChoiceLaws.{pick-by}
 use Rattle.text.proofs.PieceLaws.{by-test}
 use Rattle.journal.specs.Words.{is_blank, pieces, non_empty, words}
-use Rattle.journal.specs.Workers.Spans.{class, leading}
+
+-- 1 for a blank, 0 for a byte of a word
+abbrev class : ℕ → ℕ
+class byte = pick (is_blank byte) 1 0
+
+-- how many bytes of a class a line starts with
+unfoldable leading : ℕ → List ℕ → ℕ
+leading k [] = 0
+leading k (byte ∷ line) = pick (eqb (class byte) k) (suc (leading k line)) 0
 
 -- at most the length
-pub leading_le : (k : ℕ) (line : List ℕ) → leading k line ≤ length line
+leading_le : (k : ℕ) (line : List ℕ) → leading k line ≤ length line
 unfolding leading
 leading_le k [] = zero-le
 leading_le k (byte ∷ line) =
@@ -37,24 +48,6 @@ leading-none : (k : ℕ) → leading k [] ≡ 0
 unfolding leading
 leading-none k = refl
 
--- the loop of `leading`
-module _ (k : ℕ) (line : List ℕ) (i : ℕ) (so_far : leading k line ≡ i + leading k (drop i line)) where
-  pub leading-found : i < length line → class (at line i) ≢ k → i ≡ leading k line
-  leading-found inside other =
-      let none : leading k (drop i line) ≡ 0 = rw (drop-cons line i 0 inside) (leading-ends k (at line i) (drop (suc i) line) other) in
-      omega arith
-
-  pub leading-turn : i < length line → class (at line i) ≡ k → leading k line ≡ (i + 1) + leading k (drop (i + 1) line)
-  leading-turn inside one =
-      let more : leading k (drop i line) ≡ suc (leading k (drop (suc i) line)) =
-      rw (drop-cons line i 0 inside) (leading-more k (at line i) (drop (suc i) line) one) in
-      rw (add-one i) (omega arith)
-
-  pub leading-all : i ≡ length line → i ≡ leading k line
-  leading-all end =
-      let past : leading k line ≤ length line = leading_le k line in
-      omega arith
-
 -- the class of a byte
 class-blank : (byte : ℕ) → is_blank byte ≡ true → class byte ≡ 1
 class-blank byte e = rw e refl
@@ -63,16 +56,16 @@ class-other : (byte : ℕ) → is_blank byte ≡ false → class byte ≡ 0
 class-other byte e = rw e refl
 
 -- one or none
-pub blanks-more : (byte : ℕ) (line : List ℕ) → is_blank byte ≡ true → leading 1 (byte ∷ line) ≡ suc (leading 1 line)
+blanks-more : (byte : ℕ) (line : List ℕ) → is_blank byte ≡ true → leading 1 (byte ∷ line) ≡ suc (leading 1 line)
 blanks-more byte line e = leading-more 1 byte line (class-blank byte e)
 
-pub blanks-end : (byte : ℕ) (line : List ℕ) → is_blank byte ≡ false → leading 1 (byte ∷ line) ≡ 0
+blanks-end : (byte : ℕ) (line : List ℕ) → is_blank byte ≡ false → leading 1 (byte ∷ line) ≡ 0
 blanks-end byte line e = leading-ends 1 byte line (λ one. omega (arith, class-other byte e, one))
 
-pub word_more : (byte : ℕ) (line : List ℕ) → is_blank byte ≡ false → leading 0 (byte ∷ line) ≡ suc (leading 0 line)
+word_more : (byte : ℕ) (line : List ℕ) → is_blank byte ≡ false → leading 0 (byte ∷ line) ≡ suc (leading 0 line)
 word_more byte line e = leading-more 0 byte line (class-other byte e)
 
-pub word_end : (byte : ℕ) (line : List ℕ) → is_blank byte ≡ true → leading 0 (byte ∷ line) ≡ 0
+word_end : (byte : ℕ) (line : List ℕ) → is_blank byte ≡ true → leading 0 (byte ∷ line) ≡ 0
 word_end byte line e = leading-ends 0 byte line (λ none. omega (arith, class-blank byte e, none))
 
 pub words-nil : words [] ≡ []
@@ -104,7 +97,7 @@ words-front byte line e =
     rw (e, word_more byte line e, rest.1) (ap (λ (t : List (List ℕ)). (byte ∷ take (leading 0 line) line) ∷ t) rest.2)
 
 -- blanks alone have no word
-pub words-none : (line : List ℕ) → leading 1 line ≡ length line → words line ≡ []
+words-none : (line : List ℕ) → leading 1 line ≡ length line → words line ≡ []
 words-none [] e = words-nil
 words-none (byte ∷ line) e =
     by-test (is_blank byte)
@@ -120,36 +113,60 @@ words-past (byte ∷ line) h =
     (λ b. words-blank byte line b ∙ rw (blanks-more byte line b) (words-past line (omega (arith, h, blanks-more byte line b))))
     (λ b. rw (blanks-end byte line b) (words-front byte line b))
 
--- the same by its ends in the line
-module _ (line : List ℕ) (from start end : ℕ) (s : start ≡ from + leading 1 (drop from line)) (e : end ≡ start + leading 0 (drop start line)) where
-  blanks : ℕ
-  blanks = leading 1 (drop from line)
+-- the same by the library's searches: for the first byte of a word, and for the blank after it
+start-place : (line : List ℕ) → leading 1 line ≡ position_or_len (λ byte. not (is_blank byte)) line
+start-place line =
+    is_position_or_len (leading 1) (λ byte. not (is_blank byte)) (leading-none 1)
+    (λ byte others. by-test (is_blank byte) (λ b. rw (b, blanks-more byte others b) (omega arith)) (λ b. rw (b, blanks-end byte others b) refl)) line
 
-  past : drop blanks (drop from line) ≡ drop start line
-  unfolding blanks
-  past = drop-drop blanks from line ∙ ap (λ (n : ℕ). drop n line) (sym s)
+end-place : (line : List ℕ) → leading 0 line ≡ position_or_len is_blank line
+end-place line =
+    is_position_or_len (leading 0) is_blank (leading-none 0)
+    (λ byte others. by-test (is_blank byte) (λ b. rw (b, word_end byte others b) refl) (λ b. rw (b, word_more byte others b) (omega arith))) line
 
-  pub words-first : start < length line → words (drop from line) ≡ take (end - start) (drop start line) ∷ words (drop end line)
-  unfolding blanks
-  words-first inside =
-      let size : leading 0 (drop start line) ≡ end - start = omega arith in
-      let back : start + (end - start) ≡ end = omega arith in
-      let rest : drop (end - start) (drop start line) ≡ drop end line = drop-drop (end - start) start line ∙ ap (λ (n : ℕ). drop n line) back in
-      words-past (drop from line) (omega (arith, inside, s, length-drop from line))
-      ∙ ap (λ (m : List ℕ). take (leading 0 m) m ∷ words (drop (leading 0 m) m)) past
-      ∙ ap (λ (n : ℕ). take n (drop start line) ∷ words (drop n (drop start line))) size
-      ∙ ap (λ (m : List ℕ). take (end - start) (drop start line) ∷ words m) rest
+-- the place that a search finds is the first one
+found-place : (p : ℕ → Bool) (line : List ℕ) (start : ℕ) → Some start ≡ position p line → (start ≡ position_or_len p line) × (start < length line)
+found-place p line start found =
+    by-test (ltb (position_or_len p line) (length line))
+    (λ t.
+    let same : Some start ≡ Some (position_or_len p line) = found ∙ rw t refl in
+    let e : start ≡ position_or_len p line = ap (λ o. unwrap_or o start) same in
+    (e, omega (arith, e, ltb-true (position_or_len p line) (length line) t)))
+    (λ f. absurd (none-some start (sym (found ∙ rw f refl))))
+  where
+    none-some : (n : ℕ) → None ≡ Some n → ⊥
+    none-some n e = omega (arith, ap (λ o. unwrap_or o n) e, ap (λ o. unwrap_or o (suc n)) e)
 
-  pub words_last : from ≤ length line → length line ≤ start → words (drop from line) ≡ []
-  words_last inside over = words-none (drop from line) (omega (arith, over, s, leading_le 1 (drop from line), length-drop from line))
+no-place : (p : ℕ → Bool) (line : List ℕ) → None ≡ position p line → length line ≤ position_or_len p line
+no-place p line none =
+    by-test (ltb (position_or_len p line) (length line))
+    (λ t.
+    let same : None ≡ Some (position_or_len p line) = none ∙ rw t refl in
+    absurd (omega (arith, ap (λ o. unwrap_or o 0) same, ap (λ o. unwrap_or o (suc (position_or_len p line))) same)))
+    (λ f. ltb-false (position_or_len p line) (length line) f)
 
--- the part of a line from a place on
-pub whole_part : (line : List ℕ) (from : ℕ) → take (length line - from) (drop from line) ≡ drop from line
-whole_part line from = take_all (length line - from) (drop from line) (omega (arith, length-drop from line))
+pub no_word : (line : List ℕ) → None ≡ position (λ byte. not (is_blank byte)) line → words line ≡ []
+no_word line none =
+    words-none line (omega (arith, no-place (λ byte. not (is_blank byte)) line none, start-place line, leading_le 1 line))
 
-module _ (k : ℕ) (line : List ℕ) (from r : ℕ) (e : r ≡ leading k (take (length line - from) (drop from line))) where
-  pub part-leading : r ≡ leading k (drop from line)
-  part-leading = e ∙ ap (leading k) (whole_part line from)
+-- the end of a word that a search for a blank finds, or the end of the line
+ends-at : (word : List ℕ) → unwrap_or (position is_blank word) (length word) ≡ leading 0 word
+ends-at word =
+    by-test (ltb (position_or_len is_blank word) (length word))
+    (λ t. rw t (sym (end-place word)))
+    (λ f. rw f (omega (arith, ltb-false (position_or_len is_blank word) (length word) f, end-place word, leading_le 0 word)))
 
-  pub part-within : from ≤ length line → from + r ≤ length line
-  part-within inside = omega (arith, part-leading, leading_le k (drop from line), length-drop from line)
+pub word_next : (line : List ℕ) (start end : ℕ) (word : List ℕ) (found : Option ℕ) → Some start ≡ position (λ byte. not (is_blank byte)) line →
+    word ≡ take (length line - start) (drop start line) → found ≡ position is_blank word → end ≡ unwrap_or found (length word) →
+    words line ≡ take end word ∷ words (take (length word - end) (drop end word))
+word_next line start end word found starts is search ends =
+    let first = found-place (λ byte. not (is_blank byte)) line start starts in
+    let e : leading 1 line ≡ start = start-place line ∙ sym first.0 in
+    let whole : word ≡ drop start line = is ∙ take_all (length line - start) (drop start line) (omega (arith, length-drop start line)) in
+    let size : end ≡ leading 0 word = ends ∙ ap (λ o. unwrap_or o (length word)) search ∙ ends-at word in
+    let rest : take (length word - end) (drop end word) ≡ drop end word = take_all (length word - end) (drop end word) (omega (arith, length-drop end word)) in
+    words-past line (omega (arith, e, first.1))
+    ∙ ap (λ (n : ℕ). take (leading 0 (drop n line)) (drop n line) ∷ words (drop (leading 0 (drop n line)) (drop n line))) e
+    ∙ ap (λ (m : List ℕ). take (leading 0 m) m ∷ words (drop (leading 0 m) m)) (sym whole)
+    ∙ ap (λ (n : ℕ). take n word ∷ words (drop n word)) (sym size)
+    ∙ ap (λ (m : List ℕ). take end word ∷ words m) (sym rest)

@@ -1,50 +1,48 @@
 -- A journal: the calls of its lines, or the first line that can't be read.
-use Rattle.std.specs.Prelude.{ℕ, suc, ◌+◌, ◌/◌, List, [], ◌∷◌, ◌++◌, ltb, eqb, length}
+use Rattle.std.specs.Prelude.{ℕ, suc, ◌/◌, List, [], ◌∷◌, ◌++◌, ltb, length, Option, Some, None, Result, Ok, Err}
 use Rattle.text.specs.Lines.{line_end}
 use Rattle.base.specs.Choice.{pick}
+use Rattle.base.specs.CallKind.{number_of}
 use Rattle.base.specs.Encoding.{call_words}
 use Rattle.text.specs.Pieces.{fields}
 use Rattle.text.specs.Written.{written}
-use Rattle.journal.specs.Faults.{too_many_calls}
 use Rattle.journal.specs.Calls.{line_of}
-use Rattle.journal.specs.declared.Journal.{Journal}
-use Rattle.journal.specs.declared.calls.Line.{Line}
-use Rattle.journal.specs.declared.calls.Line.TheVariants.{Comment, Good, Faulty}
+use Rattle.journal.specs.declared.calls.Call.{Call}
+use Rattle.journal.specs.declared.faults.Fault.{Fault}
+use Rattle.journal.specs.declared.faults.Fault.TheVariants.{TooManyCalls}
+use Rattle.journal.specs.declared.faults.Unreadable.{Unreadable}
 
 -- lines end with a line end or the end of the text
 abbrev pub lines_of : List ℕ → List (List ℕ)
 lines_of text = fields line_end text
 
--- how many calls a line has
-abbrev pub calls_in : Line → ℕ
-calls_in Comment = 0
-calls_in (Good call) = 1
-calls_in (Faulty fault) = 0
+-- how many calls there are after a line, before which there were so many: there may be no room for one call more
+abbrev pub counted : (room count : ℕ) → Result (Option Call) Fault → Result ℕ Fault
+counted room count (Ok None) = Ok count
+counted room count (Ok (Some call)) = pick (ltb count room) (Ok (suc count)) (Err TooManyCalls)
+counted room count (Err fault) = Err fault
 
--- the fault of a line after so many calls: its own, or that there is no room for one call more
-abbrev pub fault_in : (room count : ℕ) → Line → ℕ
-fault_in room count Comment = 0
-fault_in room count (Good call) = pick (ltb count room) 0 too_many_calls
-fault_in room count (Faulty fault) = fault
+-- the answer past a line of a number: its fault, or what comes of so many calls
+abbrev pub past_line : ℕ → Result ℕ Fault → (ℕ → Result ℕ Unreadable) → Result ℕ Unreadable
+past_line number (Ok count) later = later count
+past_line number (Err fault) later = Err (record { line = number; fault = fault })
 
 -- the answer for lines from a number on, after so many calls: the first fault and the number of its line,
 -- or how many calls there are
-unfoldable pub answer_from : (room number count : ℕ) → List (List ℕ) → Journal
-answer_from room number count [] = record { fault = 0; line = 0; count = count }
+unfoldable pub answer_from : (room number count : ℕ) → List (List ℕ) → Result ℕ Unreadable
+answer_from room number count [] = Ok count
 answer_from room number count (line ∷ others) =
-    pick (eqb (fault_in room count (line_of line)) 0)
-    (answer_from room (suc number) (count + calls_in (line_of line)) others)
-    (record { fault = fault_in room count (line_of line); line = number; count = 0 })
+    past_line number (counted room count (line_of line)) (λ more. answer_from room (suc number) more others)
 
 -- the answer for a text, with room for as many calls as there are words for
-abbrev pub answer_of : List ℕ → List ℕ → Journal
+abbrev pub answer_of : List ℕ → List ℕ → Result ℕ Unreadable
 answer_of text calls = answer_from (length calls / call_words) 1 0 (lines_of text)
 
 -- the six words of a line's call
-abbrev pub words_in : Line → List ℕ
-words_in Comment = []
-words_in (Good call) = call.kind ∷ call.a ∷ call.b ∷ call.c ∷ call.kw ∷ 0 ∷ []
-words_in (Faulty fault) = []
+abbrev pub words_in : Result (Option Call) Fault → List ℕ
+words_in (Ok None) = []
+words_in (Ok (Some call)) = number_of call.kind ∷ call.a ∷ call.b ∷ call.c ∷ call.kw ∷ 0 ∷ []
+words_in (Err fault) = []
 
 -- the words of the calls of lines, one after the other
 unfoldable pub encoded_calls : List (List ℕ) → List ℕ
@@ -52,6 +50,9 @@ encoded_calls [] = []
 encoded_calls (line ∷ others) = words_in (line_of line) ++ encoded_calls others
 
 -- the words that are left: those of all calls in front where every line was read, else as they were
+abbrev pub left_by : Result ℕ Unreadable → List ℕ → List ℕ → List ℕ
+left_by (Ok count) made old = made
+left_by (Err unreadable) made old = old
+
 unfoldable pub calls_left : List ℕ → List ℕ → List ℕ
-calls_left text calls =
-    pick (eqb (answer_of text calls).fault 0) (written 0 (encoded_calls (lines_of text)) calls) calls
+calls_left text calls = left_by (answer_of text calls) (written 0 (encoded_calls (lines_of text)) calls) calls

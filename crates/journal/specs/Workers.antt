@@ -1,3 +1,2 @@
 -- What private functions ask and promise one another. No public contract cites these; a reader need not believe them.
-pub mod Figures
-pub mod Spans
+pub mod Left

@@ -1,13 +1,55 @@
-// Why a line of a journal can't be read, each fault numbered here once; specs/Faults has the same. 0 is no fault.
+// Why a line of a journal can't be read.
+ghost use Rattle.std.specs.Prelude.{◌≡◌};
+ghost use Rattle.journal.specs.Faults.{fault_of};
 
-// Its first word is not the name of a call.
-pub const NOT_A_CALL: u32 = 1;
+use std::fmt;
+use text::NumberError;
 
-// Too few or too many numbers, or a word that is no number.
-pub const BAD_NUMBERS: u32 = 2;
+// The faults of a line.
+#[derive(Clone, Copy, Debug, PartialEq, Eq)]
+pub enum Fault {
+    // Its first word is not the name of a call.
+    NotACall,
+    // Too few or too many numbers, or a word that is no number.
+    BadNumbers,
+    // A number over 32 bits.
+    Over32Bits,
+    // No room for one more call.
+    TooManyCalls,
+}
 
-// A number over 32 bits.
-pub const OVER_32_BITS: u32 = 3;
+impl From<NumberError> for Fault {
+    ghost from_gives = { λ error fault. fault ≡ fault_of error };
 
-// No room for one more call.
-pub const TOO_MANY_CALLS: u32 = 4;
+    fn from(error: NumberError) -> Fault {
+        match error {
+            NumberError::Over => Fault::Over32Bits,
+            NumberError::Bad => Fault::BadNumbers,
+        }
+    }
+}
+
+// As program `year` says them.
+impl fmt::Display for Fault {
+    fn fmt<W: fmt::Write>(&self, f: &mut fmt::Formatter<W>) -> fmt::Result {
+        f.write_str(match self {
+            Fault::NotACall => "not a call",
+            Fault::BadNumbers => "a number is missing, is one too many or can't be read",
+            Fault::Over32Bits => "a number over 32 bits",
+            Fault::TooManyCalls => "more than 16,384 calls",
+        })
+    }
+}
+
+// The first line that can't be read, counted from 1, and why.
+#[derive(Clone, Copy, Debug, PartialEq, Eq)]
+pub struct Unreadable {
+    pub line: usize,
+    pub fault: Fault,
+}
+
+impl fmt::Display for Unreadable {
+    fn fmt<W: fmt::Write>(&self, f: &mut fmt::Formatter<W>) -> fmt::Result {
+        write!(f, "line {}: {}", self.line, self.fault)
+    }
+}

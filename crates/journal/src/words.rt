@@ -1,28 +1,41 @@
-// Where the words of a line begin and end.
-ghost use Rattle.std.specs.Prelude.{◌≡◌, ◌≤◌, length};
-ghost use Rattle.journal.specs.Words.{is_blank};
-ghost use Rattle.journal.specs.Workers.Spans.{class, leading, NextWord};
+// The words of a line, one after the other.
+ghost use Rattle.std.specs.Prelude.{◌≡◌};
+ghost use Rattle.std.specs.Iterator.{YieldsFirstBy, item_count};
+ghost use Rattle.journal.specs.Words.{is_blank, words};
+ghost use Rattle.journal.specs.Workers.Left.{words_left};
 
-// The classes of bytes.
-const WORD: u32 = 0;
-
-const BLANK: u32 = 1;
-
-// Where a word starts, and where it ends.
-#[derive(Clone, Copy)]
-pub struct Span {
-    pub start: usize,
-    pub end: usize,
+// The words of what is left of a line.
+#[derive(Drop)]
+pub(super) struct Words<'a> {
+    rest: &'a [u8],
 }
 
-// The next word of a line from a place on; both ends are the line's end where there is none.
-pub(super) fn next_word(line: &[u8], from: usize) -> Span
-    requires { from ≤ length line.now }
-    ensures { NextWord line.now from result }
+// All words of a line.
+pub(super) fn words_of(line: &[u8]) -> Words<'_>
+    ensures { words_left result ≡ words line.now }
 {
-    let start = from + leading(&line[from..], BLANK);
-    let end = start + leading(&line[start..], WORD);
-    Span { start, end }
+    Words { rest: line }
+}
+
+impl<'a> Iterator for Words<'a> {
+    type Item = &'a [u8];
+
+    ghost next_gives = { YieldsFirstBy (λ word. word.now) words_left };
+
+    ghost remaining = { item_count words_left };
+
+    fn next(&mut self) -> Option<&'a [u8]> {
+        let Some(start) = self.rest.iter().position(|byte| !is_blank(*byte)) else {
+            return None;
+        };
+        let word = &self.rest[start..];
+        let end = word
+            .iter()
+            .position(|byte| is_blank(*byte))
+            .unwrap_or(word.len());
+        self.rest = &word[end..];
+        Some(&word[..end])
+    }
 }
 
 // Whether a byte stands between words: a blank, a tab or a carriage return.
@@ -30,25 +43,4 @@ fn is_blank(byte: u8) -> bool
     ensures { result ≡ is_blank byte }
 {
     (byte == b' ') | (byte == b'\t') | (byte == b'\r')
-}
-
-// The class of a byte.
-fn class(byte: u8) -> u32
-    ensures { result ≡ class byte }
-{
-    if is_blank(byte) { BLANK } else { WORD }
-}
-
-// How many bytes of a class a line starts with.
-fn leading(line: &[u8], k: u32) -> usize
-    ensures { result ≡ leading k line.now }
-{
-    let mut i = 0;
-    while i < line.len() {
-        if class(line[i]) != k {
-            return i;
-        }
-        i += 1;
-    }
-    i
 }

@@ -1,20 +1,15 @@
 -- `kind_of` meets its contract, name by name.
-use Rattle.base.proofs.Prelude.{rules}
 use Rattle.journal.specs.Calls.{kind_of}
 use Rattle.journal.proofs.CallLaws.{choices}
 use Rattle.journal.proofs.calls.kind_of.Goals as goal
 
 pub returns-then-same : goal.returns-then-same
 unfolding kind_of
-returns-then-same c = search rules
-
-pub same-requires-2 : goal.same-requires-2
-unfolding kind_of
-same-requires-2 c = search choices depth 8
+returns-then-same c = search choices depth 8
 
 pub returns-then-same-2 : goal.returns-then-same-2
 unfolding kind_of
-returns-then-same-2 c = search rules
+returns-then-same-2 c = search choices depth 8
 
 pub returns-then-same-3 : goal.returns-then-same-3
 unfolding kind_of
@@ -22,20 +17,16 @@ returns-then-same-3 c = search choices depth 8
 
 pub returns-then-same-4 : goal.returns-then-same-4
 unfolding kind_of
-returns-then-same-4 c = search rules
-
-pub same-requires-5 : goal.same-requires-5
-unfolding kind_of
-same-requires-5 c = search choices depth 8
+returns-then-same-4 c = search choices depth 8
 
 pub returns-then-same-5 : goal.returns-then-same-5
 unfolding kind_of
-returns-then-same-5 c = search rules
+returns-then-same-5 c = search choices depth 8
 
 pub returns-then-same-6 : goal.returns-then-same-6
 unfolding kind_of
 returns-then-same-6 c = search choices depth 8
 
-pub returns : goal.returns
+pub returns-else-same-6 : goal.returns-else-same-6
 unfolding kind_of
-returns c = search rules
+returns-else-same-6 c = search choices depth 8

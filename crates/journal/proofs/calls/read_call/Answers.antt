@@ -1,15 +1,10 @@
 -- `read_call` meets its contract: the fault of the numbers, or a call.
-use Rattle.base.proofs.Prelude.{arith}
-use Rattle.journal.specs.Words.{words}
-use Rattle.journal.proofs.CallLaws.{numbers-fail, numbers-stand}
+use Rattle.base.proofs.Prelude.{sym, ap, ◌∙◌, rules}
+use Rattle.std.specs.Result.{result_map_both}
+use Rattle.journal.specs.Calls.{numbers_of}
+use Rattle.journal.specs.Workers.Left.{words_left}
+use Rattle.journal.proofs.CallLaws.{call-made}
 use Rattle.journal.proofs.calls.read_call.Goals as goal
 
-pub returns-then-fault-ne0 : goal.returns-then-fault-ne0
-returns-then-fault-ne0 c = let a = c.args in
-    numbers-fail a.kind (words a.rest.now) _ (rw c.takes.ensures.0 at c.read_numbers-fault.ensures.0) c.if-fault-ne0.true
-
 pub returns : goal.returns
-returns c = let a = c.args in
-    let t = c.takes.ensures in
-    let r = c.read_numbers-fault.ensures in
-    numbers-stand a.kind (words a.rest.now) _ (rw t.0 at r.0) c.if-fault-ne0.false (omega (arith, t.0, t.1)) _ _ (rw t.0 at r.1) c.call_with.ensures
+returns c = call-made c.args.kind c.takes.result 4 c.read_numbers.new.numbers _ c.call_with.result _ (ap (result_map_both (λ _. c.read_numbers.new.numbers) (λ fault. fault)) (sym c.in_ok-read_numbers.was) ∙ c.read_numbers.ensures ∙ ap (λ n. numbers_of n (words_left c.args.words.now)) (search rules)) (search rules) c.call_with.ensures

@@ -1,30 +1,28 @@
-use Rattle.base.proofs.Prelude.{ℕ, ap, ◌∙◌, List, arith, rules}
-use Rattle.journal.specs.Words.{words}
-use Rattle.journal.specs.Calls.{numbers_of}
-use Rattle.journal.proofs.WordLaws.{whole_part}
-use Rattle.journal.proofs.NumberLaws.{reading_begins, reading-stops, reading-turn, reading-ends}
+use Rattle.base.proofs.Prelude.{◌≡◌, sym, ◌∙◌, length, rules}
+use Rattle.std.specs.Prelude.{Err}
+use Rattle.journal.specs.Faults.{fault_of}
+use Rattle.journal.proofs.NumberLaws.{reading_begins, reading-lacks, reading-stops, reading-turn, reading-over, reading-ends}
 use Rattle.journal.proofs.calls.read_numbers.Goals as goal
 
-pub loop-k-init : goal.loop-k-init
-loop-k-init c =
-    let a = c.args in
-    let b = reading_begins a.rest.now a.wanted a.numbers.now in
-    (search rules, search rules, b.0, b.1)
+pub loop-number-init : goal.loop-number-init
+loop-number-init c = search (rules, reading_begins)
 
-pub returns-then-figure-ne0 : goal.returns-then-figure-ne0
-returns-then-figure-ne0 c = let a = c.args in
-    let t = c.loop-k in
-    let w = c.next_word-word.ensures in
-    reading-stops a.rest.now t.at _ _ w.start_is w.end_is t.invariant.1 a.wanted t.k (search rules) (numbers_of a.wanted (words a.rest.now)) a.numbers.now t.numbers t.invariant.2 t.invariant.3 _ c.read_figure-figure.ensures c.if-figure-ne0.true
+pub returns-in_default : goal.returns-in_default
+returns-in_default c = search (rules, reading-lacks)
 
-pub loop-k-preserved : goal.loop-k-preserved
-loop-k-preserved c = let a = c.args in
-    let t = c.loop-k in
-    let w = c.next_word-word.ensures in
-    let turn = reading-turn a.rest.now t.at _ _ w.start_is w.end_is t.invariant.1 a.wanted t.k (search rules) (numbers_of a.wanted (words a.rest.now)) a.numbers.now t.numbers t.invariant.2 t.invariant.3 _ c.read_figure-figure.ensures c.if-figure-ne0.false in
-    (search rules, w.within, turn.0, turn.1)
+pub returns-in_err-number : goal.returns-in_err-number
+returns-in_err-number c =
+    let e : c.from_residual.result ≡ Err (fault_of c.in_err-number.field-0.0) = search rules in
+    let size : length c.args.numbers.now ≡ length c.loop-number.numbers = search rules in
+    rw (e, size) (reading-stops c.loop-number.number-index _ c.loop-number.numbers _ c.loop-number.invariant _ _ (rw c.in-Some.is at c.next.ensures.steps) (search rules) c.in_err-number.field-0.0 (sym c.in_err-number.was ∙ c.read_number.ensures))
 
-pub returns : goal.returns
-returns c = let a = c.args in
-    let t = c.loop-k in
-    reading-ends a.rest.now t.at a.wanted t.k _ (numbers_of a.wanted (words a.rest.now)) a.numbers.now t.numbers (omega arith) t.invariant.2 t.invariant.3 (c.last_fault.ensures ∙ ap (λ (l : List ℕ). (numbers_of 0 (words l)).fault) (whole_part a.rest.now t.at))
+pub loop-number-preserved : goal.loop-number-preserved
+loop-number-preserved c = search (rules, reading-turn)
+
+pub returns-in-Some-next : goal.returns-in-Some-next
+returns-in-Some-next c =
+    let size : length c.args.numbers.now ≡ length c.loop-number.numbers = search rules in
+    rw size (reading-over c.loop-number.number-index _ c.loop-number.numbers _ c.loop-number.invariant _ _ (rw c.in-Some-next.is at c.next-2.ensures.steps) (search rules))
+
+pub returns-in-None : goal.returns-in-None
+returns-in-None c = search (rules, reading-ends)

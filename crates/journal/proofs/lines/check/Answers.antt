@@ -1,15 +1,46 @@
-use Rattle.base.proofs.Prelude.{refl, rules}
-use Rattle.journal.proofs.JournalLaws.{check-stops, check-ends, check-turn}
+use Rattle.base.proofs.Prelude.{◌≡◌, ◌+◌, ◌^◌, ◌<◌, sym, ap, ◌∙◌, length, arith, rules, zero-le}
+use Rattle.std.specs.Iterator.Adapters.{enumerate_source, enumerate_count}
+use Rattle.text.specs.Pieces.{fields}
+use Rattle.text.specs.Left.{pieces_left}
+use mathlib.Core.Logic.{inl}
+use Rattle.journal.specs.Calls.{line_of}
+use Rattle.journal.specs.Journals.{answer_from}
+use Rattle.journal.proofs.JournalLaws.{check-stops, check-turn, check-ends, counted-most, length-fields}
 use Rattle.journal.proofs.lines.check.Goals as goal
 
-pub loop-line-init : goal.loop-line-init
-loop-line-init c = (search rules, search rules, search rules, refl)
+pub loop-place-init-derived : goal.loop-place-init-derived
+loop-place-init-derived c =
+    let e = c.into_iter-place-iterator.ensures.into_iter_gives in
+    let source : enumerate_source c.into_iter-place-iterator.result ≡ c.split.result = ap enumerate_source e ∙ c.enumerate-place-items.ensures.source in
+    let left : pieces_left (enumerate_source c.into_iter-place-iterator.result) ≡ fields 10 c.args.text.now = ap pieces_left source ∙ c.split.ensures in
+    let none : enumerate_count c.into_iter-place-iterator.result ≡ 0 = ap enumerate_count e ∙ c.enumerate-place-items.ensures.count in
+    let small : length c.args.text.now < 2 ^ 63 = search rules in
+    ((tt, tt, inl (omega (arith, none, small, ap length left, length-fields 10 c.args.text.now))), tt)
 
-pub returns-then-fault-ne0 : goal.returns-then-fault-ne0
-returns-then-fault-ne0 c = search (rules, check-stops)
+pub loop-place-init : goal.loop-place-init
+loop-place-init c =
+    let e = c.into_iter-place-iterator.ensures.into_iter_gives in
+    let source : enumerate_source c.into_iter-place-iterator.result ≡ c.split.result = ap enumerate_source e ∙ c.enumerate-place-items.ensures.source in
+    let left : pieces_left (enumerate_source c.into_iter-place-iterator.result) ≡ fields 10 c.args.text.now = ap pieces_left source ∙ c.split.ensures in
+    let none : enumerate_count c.into_iter-place-iterator.result ≡ 0 = ap enumerate_count e ∙ c.enumerate-place-items.ensures.count in
+    (zero-le, omega (arith, none, ap length left, length-fields 10 c.args.text.now), sym (ap (λ n. answer_from c.args.room (n + 1) 0 (pieces_left (enumerate_source c.into_iter-place-iterator.result))) none ∙ ap (answer_from c.args.room 1 0) left))
 
-pub returns-then-end-text : goal.returns-then-end-text
-returns-then-end-text c = search (rules, check-ends)
+pub loop-place-preserved : goal.loop-place-preserved
+loop-place-preserved c =
+    let t = c.loop-place.invariant in
+    let step = rw c.in-Some.is at c.next.ensures.steps in
+    let more = sym c.in-Ok.is ∙ c.count_call.ensures in (
+      omega (arith, t.0, step.2, counted-most c.args.room c.loop-place.count c.in-Ok.more (line_of c.in-Some.line.now) more),
+      omega (arith, t.1, step.2, ap length step.0),
+      rw step.2 (check-turn c.args.room _ c.loop-place.count _ _ t.2 _ _ step.0 _ more),
+    )
 
-pub loop-line-preserved : goal.loop-line-preserved
-loop-line-preserved c = (search rules, search rules, search rules, search (rules, check-turn))
+pub returns-in-Err : goal.returns-in-Err
+returns-in-Err c =
+    let step = rw c.in-Some.is at c.next.ensures.steps in
+    rw step.1 (check-stops c.args.room _ c.loop-place.count _ _ c.loop-place.invariant.2 _ _ step.0 _ (sym c.in-Err.is ∙ c.count_call.ensures))
+
+pub returns : goal.returns
+returns c =
+    let step = rw c.in-None.is at c.next.ensures.steps in
+    check-ends c.args.room _ c.loop-place.count _ _ c.loop-place.invariant.2 step.0.0

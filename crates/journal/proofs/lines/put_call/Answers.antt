@@ -1,22 +1,7 @@
 -- `put_call` meets its contract: six words are stored.
-use Rattle.base.proofs.Prelude.{refl, arith, length-set}
+use Rattle.std.proofs.Common.{refl, arith}
 use Rattle.journal.proofs.JournalLaws.{call-put}
 use Rattle.journal.proofs.lines.put_call.Goals as goal
 
-pub bounds-calls-place-2 : goal.bounds-calls-place-2
-bounds-calls-place-2 c = simp length-set (omega arith)
-
-pub bounds-calls-place-3 : goal.bounds-calls-place-3
-bounds-calls-place-3 c = simp length-set (omega arith)
-
-pub bounds-calls-place-4 : goal.bounds-calls-place-4
-bounds-calls-place-4 c = simp length-set (omega arith)
-
-pub bounds-calls-place-5 : goal.bounds-calls-place-5
-bounds-calls-place-5 c = simp length-set (omega arith)
-
-pub bounds-calls-place-6 : goal.bounds-calls-place-6
-bounds-calls-place-6 c = simp length-set (omega arith)
-
 pub returns : goal.returns
-returns c = (refl, call-put _ _ _)
+returns c = (refl, call-put c.args.call c.args.place _ _ c.args.calls.now _ c.number.ensures (omega (arith, c.requires)) c.copy_from_slice.ensures.after (omega arith))

@@ -1,19 +1,21 @@
-use Rattle.base.proofs.Prelude.{refl, arith, rules}
-use Rattle.journal.specs.Journals.{lines_of, encoded_calls}
-use Rattle.journal.proofs.JournalLaws.{words-fit, put-ends, put-room, put-turn}
+use Rattle.base.proofs.Prelude.{arith, rules}
+use Rattle.journal.proofs.JournalLaws.{words-fit, put-room, put-turn, put-ends}
 use Rattle.journal.proofs.lines.put_calls.Goals as goal
 
 pub put_line-place-requires : goal.put_line-place-requires
-put_line-place-requires c = let a = c.args in
-    let t = c.loop-at in
-    let fit = words-fit a.text.now t.at t.place (encoded_calls (lines_of a.text.now)) a.calls.now t.calls t.invariant.2 t.invariant.3 _ t.invariant.0 c.piece_end-end.ensures.0 _ c.read_line-line.ensures in
-    omega (arith, fit, t.invariant.1)
+put_line-place-requires c =
+    let t = c.loop-line.invariant in
+    omega (arith, t.0, words-fit _ c.loop-line.place _ _ c.loop-line.calls t.1 t.2 _ _ (rw c.in-Some.is at c.next.ensures.steps))
 
-pub loop-at-init : goal.loop-at-init
-loop-at-init c = (search rules, refl, search rules, refl)
+pub loop-line-preserved : goal.loop-line-preserved
+loop-line-preserved c =
+    let t = c.loop-line.invariant in
+    let left = rw c.in-Some.is at c.next.ensures.steps in
+    let put = c.put_line-place.ensures in (
+      search rules,
+      put-room _ c.loop-line.place _ _ c.loop-line.calls t.1 t.2 _ _ left _ _ put.0 put.1,
+      put-turn _ c.loop-line.place _ _ c.loop-line.calls t.1 t.2 _ _ left _ _ put.0 put.1,
+    )
 
-pub returns-then-end-text : goal.returns-then-end-text
-returns-then-end-text c = search (rules, put-ends)
-
-pub loop-at-preserved : goal.loop-at-preserved
-loop-at-preserved c = (search rules, search rules, search (rules, put-room), search (rules, put-turn))
+pub returns : goal.returns
+returns c = search (rules, put-ends)
