@@ -1,11 +1,11 @@
 -- The lines of a journal, one after the other.
 use Prim.Native.Nat.{ℕ, suc, ◌+◌, ◌*◌, ◌/◌, ◌≤◌}
 use mathlib.Core.Path.{◌≡◌, refl, sym, ap, ◌∙◌}
-use mathlib.Core.Bool.{Bool, true, false}
+use mathlib.Core.Bool.{true, false}
 use mathlib.Core.List.{List, [], ◌∷◌, ◌++◌}
 use native.Mathlib.Numerals.{add-one}
 use native.Mathlib.Omega.{arith}
-use lib.Dec.{ltb, eqb}
+use lib.Dec.{ltb}
 use lib.ListN.{length, take, drop, length-append, take-append-drop}
 use borrow.Author.Tests.{ltb-true}
 use borrow.Rule.Slice.PartMut.{put_mid}
@@ -13,7 +13,6 @@ use Rattle.std.specs.Prelude.{Option, Some, None, Result, Ok, Err}
 use Rattle.std.specs.Result.{result_unwrap_or}
 use Rattle.std.proofs.lemmas.Slice.{take-put_mid, drop-put_mid}
 use Rattle.base.specs.CallKind.{number_of}
-use Rattle.text.specs.Pieces.{joined, fields}
 use Rattle.text.specs.Written.{written}
 use Rattle.text.proofs.PieceLaws.{by-test}
 use Rattle.text.proofs.WrittenLaws.{written_is, written_none, written-more}
@@ -78,17 +77,6 @@ module _ (room place count : ℕ) (left : List (List ℕ)) (whole : Result ℕ U
 
   pub check-ends : left ≡ [] → Ok count ≡ whole
   check-ends none = sym (so_far ∙ ap (answer_from room (place + 1) count) none ∙ answer-none room (place + 1) count)
-
--- no more lines than line ends and one
-length-joined : (b : Bool) (byte : ℕ) (lines : List (List ℕ)) → length (joined b byte lines) ≤ length lines + 1
-length-joined true byte lines = omega arith
-length-joined false byte [] = omega arith
-length-joined false byte (line ∷ lines) = omega arith
-
-pub length-fields : (separator : ℕ) (text : List ℕ) → length (fields separator text) ≤ length text + 1
-unfolding fields
-length-fields separator [] = omega arith
-length-fields separator (byte ∷ text) = omega (arith, length-joined (eqb byte separator) byte (fields separator text), length-fields separator text)
 
 -- a call more at most
 pub counted-most : (room count more : ℕ) (line : Result (Option Call) Fault) → Ok more ≡ counted room count line → more ≤ count + 1

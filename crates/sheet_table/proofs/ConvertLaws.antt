@@ -1,30 +1,26 @@
 -- What converting a text gives, by where the reading stopped.
 use Prim.Native.Nat.{ℕ, ◌+◌, ◌≤◌}
 use mathlib.Core.Path.{◌≡◌, refl, sym, ap, ◌∙◌}
-use mathlib.Core.Logic.{◌≢◌}
 use mathlib.Core.List.{List, [], ◌∷◌, ◌++◌, map}
 use native.Mathlib.Omega.{arith}
 use lib.ListN.{length, take, drop, get_or}
 use lib.Seq.{length-take-le}
-use borrow.Author.Tests.{eq-eqb, ne_eqb}
-use Rattle.text.specs.Written.{written}
+use Rattle.std.specs.Prelude.{Result, Ok, Err}
 use Rattle.text.proofs.WrittenLaws.{written_is, length-written}
 use Rattle.io.specs.Counts.{IsPrefixLen}
-use Rattle.text.specs.Pieces.{before, fields}
+use Rattle.text.specs.Pieces.{fields}
 use Rattle.text.specs.Lines.{line_end}
 use Rattle.std.specs.Prelude.{Option}
 use Rattle.std.specs.Option.{unwrap_or}
 use Rattle.sheet_records.specs.Sheet.{size_of}
 use Rattle.sheet_records.specs.Bytes.{sheet_bytes, with_sheet, SheetWritten}
 use Rattle.sheet_records.proofs.BytesLaws.{sheet-length, written-whole}
-use Rattle.sheet_table.specs.Fields.{comma, number_at, sizes_flaw, record_key, record_kw}
-use Rattle.sheet_table.specs.Lines.{bare, lines_of, stopped, reached, lines_read, of_records, first_fields, later_lines, reading_of, sheet_of, converted, converted_into}
-use Rattle.sheet_table.specs.Workers.Steps.{Put, pieces_past, lines_past, SizesOf}
+use Rattle.sheet_table.specs.Fields.{comma, sizes_in}
+use Rattle.sheet_table.specs.Lines.{bare, lines_of, sizes_on, entries_of, first_fields, later_lines, sheet_with, sheet_of, length_of, converted, written_by, converted_into}
+use Rattle.sheet_table.specs.Workers.Steps.{Put, entries_at, read_into}
+use Rattle.sheet_table.specs.declared.faults.Unreadable.{Unreadable}
 use Rattle.sheet_table.specs.declared.fields.Sizes.{Sizes}
-use Rattle.sheet_table.specs.declared.lines.Reading.{Reading}
-use Rattle.sheet_table.specs.declared.Converted.{Converted}
-use Rattle.sheet_table.proofs.FieldLaws.{pieces-first}
-use Rattle.sheet_table.proofs.ReadingLaws.{AllRead}
+use Rattle.sheet_table.proofs.ReadingLaws.{keys-of, kws-of}
 
 -- a sheet is written into memory that holds the longest
 sheet-put : (I H : ℕ) (keys kws l m : List ℕ) (o : Option ℕ) (r : ℕ) → length keys ≤ 1024 → length kws ≡ length keys → length l ≡ 8204 → SheetWritten I H keys kws l o m →
@@ -38,63 +34,56 @@ sheet-put I H keys kws l m o r few even room wrote e =
       omega (arith, whole.0),
     )
 
--- the answer and the memory, by the reading
-abbrev pub Done : List ℕ → List ℕ → Converted → List ℕ → Type 0
-Done text l answer m = (answer ≡ converted text) × (m ≡ converted_into text l) × IsPrefixLen answer.count m
+first-bare : (lines : List (List ℕ)) → get_or (map bare lines) 0 [] ≡ bare (get_or lines 0 [])
+first-bare [] = refl
+first-bare (line ∷ lines) = refl
 
-faulty : (text l : List ℕ) (read : Reading) → read ≡ reading_of text → read.fault ≢ 0 →
-    Done text l (record { fault = read.fault; line = read.line; column = read.column; count = 0 }) l
-unfolding converted converted_into
-faulty text l read is bad = (rw (← is, ne_eqb read.fault 0 bad) refl, rw (← is, ne_eqb read.fault 0 bad) refl, (omega arith, refl))
+later-bare : (lines : List (List ℕ)) → drop 1 (map bare lines) ≡ map bare (drop 1 lines)
+later-bare [] = refl
+later-bare (line ∷ lines) = refl
 
-sound : (text l m : List ℕ) (read : Reading) (count : ℕ) → read ≡ reading_of text → read.fault ≡ 0 → count ≡ length (sheet_of text) → m ≡ written 0 (sheet_of text) l → count ≤ length l →
-    Done text l (record { fault = 0; line = 0; column = 0; count = count }) m
-unfolding converted converted_into
-sound text l m read count is good size put few =
-    let within : count ≤ length m = omega (arith, ap length put, length-written 0 (sheet_of text) l) in (
-      rw (← is, eq-eqb read.fault 0 good, size) refl,
-      put ∙ rw (← is, eq-eqb read.fault 0 good) refl,
-      (within, sym (length-take-le count m within)),
-    )
+module _ (text first : List ℕ) (past : List (List ℕ)) (is : first ≡ get_or (fields line_end text) 0 []) (rest : past ≡ drop 1 (fields line_end text))
+    (sizes : Result Sizes Unreadable) (s : sizes ≡ sizes_on (sizes_in (fields comma (bare first)))) where
+  sizes-are : sizes ≡ sizes_on (sizes_in (first_fields text))
+  unfolding lines_of
+  sizes-are = s ∙ ap (λ l. sizes_on (sizes_in (fields comma l))) (ap bare is ∙ sym (first-bare (fields line_end text)))
 
-module _ (text : List ℕ) (end : ℕ) (is : end ≡ before line_end text) (sizes : Sizes) (of : SizesOf (fields comma (bare (take end text))) sizes) where
-  cut : lines_of text ≡ bare (take end text) ∷ lines_past end text
-  unfolding lines_of lines_past
-  cut = ap (map bare) (pieces-first line_end text) ∙ ap (λ (n : ℕ). map bare (take n text ∷ pieces_past line_end n text)) (sym is)
+  later-are : map bare past ≡ later_lines text
+  unfolding lines_of
+  later-are = ap (map bare) rest ∙ sym (later-bare (fields line_end text))
 
-  first-is : fields comma (bare (take end text)) ≡ first_fields text
-  first-is = ap (λ (l : List (List ℕ)). fields comma (get_or l 0 [])) (sym cut)
+  says : sheet_of text ≡ sheet_with sizes (entries_of 2 0 (map bare past))
+  unfolding sheet_of
+  says = sym (ap (λ z. sheet_with z (entries_of 2 0 (map bare past))) sizes-are ∙ ap (λ l. sheet_with (sizes_on (sizes_in (first_fields text))) (entries_of 2 0 l)) later-are)
 
-  later-is : lines_past end text ≡ later_lines text
-  later-is = ap (drop 1) (sym cut)
+  stops : (l : List ℕ) (unreadable : Unreadable) → sheet_of text ≡ Err unreadable → (Err unreadable ≡ converted text) × (l ≡ converted_into text l)
+  unfolding converted converted_into
+  stops l unreadable e = (sym (ap length_of e), sym (ap (λ r. written_by r l) e))
 
-  flaw-is : sizes.flaw ≡ sizes_flaw (first_fields text)
-  flaw-is = of.0 ∙ ap sizes_flaw first-is
+  pub first_stops : (l : List ℕ) (unreadable : Unreadable) → sizes ≡ Err unreadable → (Err unreadable ≡ converted text) × (l ≡ converted_into text l)
+  first_stops l unreadable e = stops l unreadable (says ∙ ap (λ z. sheet_with z (entries_of 2 0 (map bare past))) e)
 
-  pub first_stops : (l : List ℕ) → sizes.flaw.fault ≢ 0 →
-      Done text l (record { fault = sizes.flaw.fault; line = 1; column = sizes.flaw.column; count = 0 }) l
-  unfolding reading_of
-  first_stops l bad =
-      faulty text l (stopped sizes.flaw.fault 1 sizes.flaw.column) (rw (← flaw-is, ne_eqb sizes.flaw.fault 0 bad) refl) bad
+  module _ (z : Sizes) (good : sizes ≡ Ok z) (keys kws : List ℕ) (read : Result ℕ Unreadable) (all : read_into keys kws read ≡ entries_of 2 0 (map bare past)) where
+    sheet : sheet_of text ≡ sheet_with (Ok z) (read_into keys kws read)
+    sheet = says ∙ ap (λ x. sheet_with x (entries_of 2 0 (map bare past))) good ∙ ap (sheet_with (Ok z)) (sym all)
 
-  module _ (good : sizes.flaw.fault ≡ 0) (keys kws : List ℕ) (read : Reading) (all : AllRead text end keys kws read) where
-    reading : read ≡ reading_of text
-    unfolding reading_of
-    reading = all.0 ∙ ap (lines_read (reached 1 0)) later-is ∙ rw (← flaw-is, eq-eqb sizes.flaw.fault 0 good) refl
+    pub line-stops : (l : List ℕ) (unreadable : Unreadable) → read ≡ Err unreadable → (Err unreadable ≡ converted text) × (l ≡ converted_into text l)
+    line-stops l unreadable e = stops l unreadable (sheet ∙ ap (λ r. sheet_with (Ok z) (read_into keys kws r)) e)
 
-    pub line-stops : (l : List ℕ) → read.fault ≢ 0 → Done text l (record { fault = read.fault; line = read.line; column = read.column; count = 0 }) l
-    line-stops l bad = faulty text l read reading bad
-
-    pub text-converts : (l m : List ℕ) (o : Option ℕ) (count : ℕ) → read.fault ≡ 0 →
-        length l ≡ 8204 → SheetWritten sizes.interties sizes.holders (take read.count keys) (take read.count kws) l o m → count ≡ unwrap_or o 0 →
-        Done text l (record { fault = 0; line = 0; column = 0; count = count }) m
-    unfolding sheet_of
-    text-converts l m o count fine room wrote e =
-        let few : length (take read.count keys) ≤ 1024 = omega (arith, all.1.1, all.3) in
-        let put = sheet-put sizes.interties sizes.holders (take read.count keys) (take read.count kws) l m o count few (sym all.2.1 ∙ all.1.1) room wrote e in
-        let i : sizes.interties ≡ number_at (first_fields text) 0 = (of.1 good).0 ∙ ap (λ (f : List (List ℕ)). number_at f 0) first-is in
-        let h : sizes.holders ≡ number_at (first_fields text) 1 = (of.1 good).1 ∙ ap (λ (f : List (List ℕ)). number_at f 1) first-is in
-        let k : take read.count keys ≡ of_records record_key (later_lines text) = (all.4 fine).0 ∙ ap (of_records record_key) later-is in
-        let q : take read.count kws ≡ of_records record_kw (later_lines text) = (all.4 fine).1 ∙ ap (of_records record_kw) later-is in
-        let same : sheet_bytes sizes.interties sizes.holders (take read.count keys) (take read.count kws) ≡ sheet_of text = rw (i, h, k, q) refl in
-        sound text l m read count reading fine (omega (arith, put.0.0, ap length same)) (put.0.1 ∙ ap (λ (t : List ℕ). written 0 t l) same) (omega (arith, put.1))
+    pub text-converts : (n : ℕ) (l m : List ℕ) (o : Option ℕ) (count : ℕ) → read ≡ Ok n → n ≤ 1024 → length keys ≡ 1024 → length kws ≡ 1024 → length l ≡ 8204 →
+        SheetWritten z.interties z.holders (take n keys) (take n kws) l o m → count ≡ unwrap_or o 0 →
+        (Ok count ≡ converted text) × (m ≡ converted_into text l) × IsPrefixLen count m
+    unfolding converted converted_into
+    text-converts n l m o count e few k q room wrote u =
+        let ks : length (take n keys) ≡ n = length-take-le n keys (omega arith) in
+        let qs : length (take n kws) ≡ n = length-take-le n kws (omega arith) in
+        let put = sheet-put z.interties z.holders (take n keys) (take n kws) l m o count (omega arith) (qs ∙ sym ks) room wrote u in
+        let bytes : List ℕ = sheet_bytes z.interties z.holders (take n keys) (take n kws) in
+        let whole : sheet_of text ≡ Ok bytes =
+        sheet
+        ∙ ap (λ r. sheet_with (Ok z) (read_into keys kws r)) e
+        ∙ ap (λ t. Ok (sheet_bytes z.interties z.holders t (map (λ x. x.kw) (entries_at n keys kws)))) (keys-of n keys kws (omega arith))
+        ∙ ap (λ t. Ok (sheet_bytes z.interties z.holders (take n keys) t)) (kws-of n keys kws (omega arith)) in
+        let size : count ≡ length bytes = omega (arith, put.0.0) in
+        let within : count ≤ length m = omega (arith, ap length put.0.1, length-written 0 bytes l, put.1) in
+        (ap Ok size ∙ sym (ap length_of whole), put.0.1 ∙ sym (ap (λ r. written_by r l) whole), (within, sym (length-take-le count m within)))

@@ -1,37 +1,57 @@
--- Which kind a name names.
-use Prim.Native.Nat.{ℕ, suc, ◌-◌, ◌<◌}
-use mathlib.Core.Path.{◌≡◌, refl, sym, ap, ◌∙◌}
-use mathlib.Core.Bool.{Bool, true, false}
-use mathlib.Core.List.{List}
+-- Which kind a name names, and which name a number has.
+use Prim.Native.Nat.{ℕ, ◌≤◌}
+use mathlib.Core.Path.{◌≡◌, refl, ap, ◌∙◌}
+use mathlib.Core.Bool.{Bool, true, false, not, ◌&&◌}
+use mathlib.Core.Logic.{◌≢◌}
+use mathlib.Core.List.{List, []}
 use native.Mathlib.Omega.{arith}
-use Rattle.text.specs.Ascii.{same}
-use Rattle.sheet_table.specs.Kinds.{name_of, named}
+use lib.Dec.{leb}
+use borrow.Author.Tests.{ne_eqb, le-leb}
+use Rattle.base.specs.Choice.{pick}
+use Rattle.base.specs.Kind.{number_of}
+use Rattle.base.specs.declared.kinds.Kind.{Kind}
+use Rattle.base.specs.declared.kinds.Kind.TheVariants.{Limit, OutsideRight, LoadShare, ExistingContract, PreRaCommitment, NewUseCommitment}
+use Rattle.sheet_table.specs.Kinds.{name, name_of}
 
-named-yes : (j : ℕ) (field : List ℕ) → same field (name_of (suc j)) ≡ true → named (suc j) field ≡ suc j
-unfolding named
-named-yes j field t = rw (t, named) refl
+-- a function that tries tests in turn, return by return: the first that holds, or one past it
+pub choice-taken : {A : Type 0} (b condition : Bool) (n rest : A) → b ≡ condition → b ≡ true → n ≡ pick condition n rest
+choice-taken b condition n rest e t = rw (← e, t) refl
 
-named-no : (j : ℕ) (field : List ℕ) → same field (name_of (suc j)) ≡ false → named (suc j) field ≡ named j field
-unfolding named
-named-no j field t = rw (t, named) refl
+pub choice-left : {A : Type 0} (b condition : Bool) (r n rest : A) → b ≡ condition → b ≡ false → r ≡ rest → r ≡ pick condition n rest
+choice-left b condition r n rest e f later = rw (← e, f) later
 
--- a kind's turn: its name, or not
-module _ (k n : ℕ) (field : List ℕ) (b : Bool) (e : b ≡ same field (name_of k)) (so_far : named k field ≡ n) (some : 0 < k) where
-  less : k ≡ suc (k - 1)
-  less = omega arith
+pub ruleset choices = (choice-taken, choice-left)
 
-  pub name-is : b ≡ true → k ≡ n
-  name-is t = less ∙ sym (go (k - 1) less) ∙ so_far
-    where
-      go : (j : ℕ) → k ≡ suc j → named k field ≡ suc j
-      go j s = ap (λ (m : ℕ). named m field) s ∙ named-yes j field (ap (λ (m : ℕ). same field (name_of m)) (sym s) ∙ sym e ∙ t)
+-- the name of a kind is that of its number
+own-name : (kind : Kind) → name kind ≡ name_of (number_of kind)
+unfolding name_of
+own-name Limit = refl
+own-name OutsideRight = refl
+own-name LoadShare = refl
+own-name ExistingContract = refl
+own-name PreRaCommitment = refl
+own-name NewUseCommitment = refl
 
-  pub name-not : b ≡ false → named (k - 1) field ≡ n
-  name-not t = sym (go (k - 1) less) ∙ so_far
-    where
-      go : (j : ℕ) → k ≡ suc j → named k field ≡ named j field
-      go j s = ap (λ (m : ℕ). named m field) s ∙ named-no j field (ap (λ (m : ℕ). same field (name_of m)) (sym s) ∙ sym e ∙ t)
+pub name-numbered : (kind : Kind) (n : ℕ) (text : List ℕ) → number_of kind ≡ n → text ≡ name kind → text ≡ name_of n
+name-numbered kind n text e is = is ∙ own-name kind ∙ ap name_of e
 
-pub named_none : (field : List ℕ) → named 0 field ≡ 0
-unfolding named
-named_none field = refl
+-- another number has none
+outside : (n k : ℕ) → not (leb 1 n && leb n 6) ≡ true → 1 ≤ k → k ≤ 6 → n ≢ k
+outside n k e low high same =
+    let one : leb 1 n ≡ true = le-leb 1 n (omega arith) in
+    let six : leb n 6 ≡ true = le-leb n 6 (omega arith) in
+    let wrong = rw (one, six) at e in
+    absurd (omega (arith, ap (λ b. pick {A = ℕ} b 1 0) wrong))
+
+pub no_name : (n : ℕ) (text : List ℕ) → not (leb 1 n && leb n 6) ≡ true → text ≡ [] → text ≡ name_of n
+unfolding name_of
+no_name n text e none =
+    none
+    ∙ rw (
+      ne_eqb n 1 (outside n 1 e (omega arith) (omega arith)),
+      ne_eqb n 2 (outside n 2 e (omega arith) (omega arith)),
+      ne_eqb n 3 (outside n 3 e (omega arith) (omega arith)),
+      ne_eqb n 4 (outside n 4 e (omega arith) (omega arith)),
+      ne_eqb n 5 (outside n 5 e (omega arith) (omega arith)),
+      ne_eqb n 6 (outside n 6 e (omega arith) (omega arith)),
+    ) refl

@@ -3,8 +3,8 @@ pub mod FieldLaws
 pub mod EntryLaws
 pub mod ReadingLaws
 pub mod ConvertLaws
-pub mod RowLaws
-pub mod TableLaws
 pub mod SplitLaws
+pub mod RowLaws
 pub mod RowReadLaws
+pub mod TableLaws
 pub mod RoundTrip

@@ -18,27 +18,16 @@ use Rattle.sheet_records.specs.Refusal.{bad_length, Whole}
 use Rattle.sheet_records.proofs.RefusalLaws.{whole}
 use Rattle.sheet_records.proofs.ReadingLaws.{word_below}
 use Rattle.sheet_records.specs.Bytes.{word_bytes, bytes_of, sheet_bytes}
-use Rattle.sheet_table.specs.Fields.{comma, record_key, record_kw}
-use Rattle.sheet_table.specs.Lines.{bare, lines_of, reached, line_read, lines_read, of_records, first_fields, later_lines, reading_of, sheet_of, converted, converted_into}
+use Rattle.std.specs.Prelude.{Result, Ok}
+use Rattle.sheet_table.specs.Fields.{comma, sizes_in}
+use Rattle.sheet_table.specs.Lines.{bare, lines_of, entries_of, past_line, sizes_on, first_fields, later_lines, sheet_with, sheet_of, length_of, converted, written_by, converted_into}
 use Rattle.sheet_table.specs.Table.{label_of, row_of, rows_of, sizes_line, table_of}
-use Rattle.sheet_table.specs.declared.lines.Reading.{Reading}
+use Rattle.sheet_table.specs.declared.fields.Entry.{Entry}
+use Rattle.sheet_table.specs.declared.faults.Unreadable.{Unreadable}
 use Rattle.sheet_records.proofs.BytesLaws.{bytes-append, bytes_one}
-use Rattle.sheet_table.proofs.ReadingLaws.{records-cons, records-one, records-empty, records-none, read_next, read_none, empty-read}
+use Rattle.sheet_table.proofs.ReadingLaws.{before, before-none, before-entry, map-append, entries-cons, entries-end, line-empty}
 use Rattle.sheet_table.proofs.SplitLaws.{Without, decimal-without, label-without, body, body-bare, body-fields, line-cut}
 use Rattle.sheet_table.proofs.RowReadLaws as Row
-
--- the records of lines after others
-records-append : (say : List (List ℕ) → ℕ) (a b : List (List ℕ)) → of_records say (a ++ b) ≡ of_records say a ++ of_records say b
-records-append say [] b = ap (λ (l : List ℕ). l ++ of_records say b) (sym (records-none say))
-records-append say (line ∷ a) b =
-    records-cons say line (a ++ b)
-    ∙ ap (λ (l : List ℕ). of_records say (line ∷ []) ++ l) (records-append say a b)
-    ∙ sym (append_assoc (of_records say (line ∷ [])) (of_records say a) (of_records say b))
-    ∙ ap (λ (l : List ℕ). l ++ of_records say b) (sym (records-cons say line a))
-
-map-append : (a b : List (List ℕ)) → map bare (a ++ b) ≡ map bare a ++ map bare b
-map-append [] b = refl
-map-append (line ∷ a) b = ap (λ (l : List (List ℕ)). bare line ∷ l) (map-append a b)
 
 -- the four bytes of a most_word of bytes
 word-bytes : (d c b a w : ℕ) → d < 256 → c < 256 → b < 256 → a < 256 → w ≡ d + 256 * c + 65_536 * b + 16_777_216 * a → word_bytes w ≡ d ∷ c ∷ b ∷ a ∷ []
@@ -119,42 +108,40 @@ module _ (s : List ℕ) (bytes : (i : ℕ) → at s i < 256) where
   unfolding lines
   lines-bare zero = refl
   lines-bare (suc k) =
-      map-append (lines k) (line k ∷ [])
+      map-append bare (lines k) (line k ∷ [])
       ∙ ap (λ (l : List (List ℕ)). l ++ (bare (line k) ∷ [])) (lines-bare k)
       ∙ ap (λ (l : List ℕ). lines k ++ (l ∷ [])) (Row.text-bare (key_at s k) (kw_at s k) (word_below s (12 + 4 * k) bytes) (word_below s (12 + 4 * count s + 4 * k) bytes))
 
-  -- they are read without a fault, and say the keys and quantities
-  lines-read : (k : ℕ) (ls : List (List ℕ)) → k ≤ 1024 → lines_read (reached 1 0) (lines k ++ ls) ≡ lines_read (reached (k + 1) k) ls
-  unfolding lines
-  lines-read zero ls few = refl
+  -- the first k records
+  recs : ℕ → List Entry
+  recs zero = []
+  recs (suc k) = recs k ++ (record { key = key_at s k; kw = kw_at s k } ∷ [])
+
+  keys-said : (k : ℕ) → map (λ e. e.key) (recs k) ≡ words 12 k
+  unfolding recs words
+  keys-said zero = refl
+  keys-said (suc k) = map-append (λ e. e.key) (recs k) _ ∙ ap (λ l. l ++ (key_at s k ∷ [])) (keys-said k)
+
+  kws-said : (k : ℕ) → map (λ e. e.kw) (recs k) ≡ words (12 + 4 * count s) k
+  unfolding recs words
+  kws-said zero = refl
+  kws-said (suc k) = map-append (λ e. e.kw) (recs k) _ ∙ ap (λ l. l ++ (kw_at s k ∷ [])) (kws-said k)
+
+  -- they are what the lines say
+  lines-read : (k : ℕ) (ls : List (List ℕ)) → k ≤ 1024 → entries_of 2 0 (lines k ++ ls) ≡ before (recs k) (entries_of (k + 2) k ls)
+  unfolding lines recs
+  lines-read zero ls few = before-none (entries_of 2 0 ls)
   lines-read (suc k) ls few =
-      ap (lines_read (reached 1 0)) (append_assoc (lines k) (line k ∷ []) ls)
+      let next : suc (k + 2) ≡ suc k + 2 = omega arith in
+      let entry : Entry = record { key = key_at s k; kw = kw_at s k } in
+      ap (entries_of 2 0) (append_assoc (lines k) (line k ∷ []) ls)
       ∙ lines-read k (line k ∷ ls) (omega arith)
-      ∙ read_next (reached (k + 1) k) (line k) ls refl
-      ∙ ap (λ (r : Reading). lines_read r ls) (Row.text-read (key_at s k) (kw_at s k) (word_below s (12 + 4 * k) bytes) (word_below s (12 + 4 * count s + 4 * k) bytes) k (omega arith))
-      ∙ ap (λ (n : ℕ). lines_read (reached (n + 1) n) ls) (add-one k)
-
-  lines-say : (say : List (List ℕ) → ℕ) (b k : ℕ) → ((j : ℕ) → say (fields comma (line j)) ≡ word_at s (b + 4 * j)) → of_records say (lines k) ≡ words b k
-  unfolding lines words
-  lines-say say b zero each = records-none say
-  lines-say say b (suc k) each =
-      records-append say (lines k) (line k ∷ [])
-      ∙ ap (λ (l : List ℕ). l ++ of_records say (line k ∷ [])) (lines-say say b k each)
-      ∙ ap (λ (l : List ℕ). words b k ++ l)
-      (records-one say (line k) (Row.text-some (key_at s k) (kw_at s k) (word_below s (12 + 4 * k) bytes) (word_below s (12 + 4 * count s + 4 * k) bytes))
-      ∙ ap (λ (x : ℕ). x ∷ []) (each k))
-
-  key-said : (j : ℕ) → record_key (fields comma (line j)) ≡ key_at s j
-  key-said j =
-      let k = word_below s (12 + 4 * j) bytes in
-      let q = word_below s (12 + 4 * count s + 4 * j) bytes in
-      ap record_key (Row.text-fields (key_at s j) (kw_at s j) k q) ∙ Row.key_back (key_at s j) (kw_at s j) k q
-
-  kw-said : (j : ℕ) → record_kw (fields comma (line j)) ≡ kw_at s j
-  kw-said j =
-      let k = word_below s (12 + 4 * j) bytes in
-      let q = word_below s (12 + 4 * count s + 4 * j) bytes in
-      ap record_kw (Row.text-fields (key_at s j) (kw_at s j) k q) ∙ Row.kw-back (key_at s j) (kw_at s j) k q
+      ∙ ap (before (recs k))
+      (entries-cons (k + 2) k (line k) ls
+      ∙ ap (λ o. past_line o (entries_of (suc (k + 2)) k ls) (entries_of (suc (k + 2)) (suc k) ls))
+      (Row.text-read (key_at s k) (kw_at s k) (word_below s (12 + 4 * k) bytes) (word_below s (12 + 4 * count s + 4 * k) bytes) (k + 2) k (omega arith)))
+      ∙ before-entry (recs k) entry (entries_of (suc (k + 2)) (suc k) ls)
+      ∙ ap (λ n. before (recs k ++ (entry ∷ [])) (entries_of n (suc k) ls)) next
 
   -- the whole text of a sheet that refusal 1 lets pass
   module _ (passes : bad_length s ≡ false) where
@@ -174,7 +161,7 @@ module _ (s : List ℕ) (bytes : (i : ℕ) → at s i < 256) where
         ap (λ (t : List ℕ). map bare (fields line_end t)) (whole-text ∙ ap (λ (l : List ℕ). sizes_line s ++ l) (sym (append-nil (rows_of s (count s)))))
         ∙ ap (map bare) (line-cut (decimal (interties s)) (holders s ∷ []) digits (rows_of s (count s) ++ []) ∙ ap (λ (l : List (List ℕ)). first ∷ l) (rows_cut (count s) []))
         ∙ ap (λ (l : List ℕ). l ∷ map bare (lines (count s) ++ ([] ∷ []))) (body-bare (decimal (interties s)) (holders s ∷ []) digits)
-        ∙ ap (λ (l : List (List ℕ)). first ∷ l) (map-append (lines (count s)) ([] ∷ []) ∙ ap (λ (l : List (List ℕ)). l ++ ([] ∷ [])) (lines-bare (count s)))
+        ∙ ap (λ (l : List (List ℕ)). first ∷ l) (map-append bare (lines (count s)) ([] ∷ []) ∙ ap (λ (l : List (List ℕ)). l ++ ([] ∷ [])) (lines-bare (count s)))
 
     first-fields : first_fields (table_of s) ≡ decimal (interties s) ∷ map decimal (holders s ∷ [])
     first-fields = ap (λ (l : List (List ℕ)). fields comma (get_or l 0 [])) cut ∙ body-fields (decimal (interties s)) (holders s ∷ []) digits
@@ -185,22 +172,18 @@ module _ (s : List ℕ) (bytes : (i : ℕ) → at s i < 256) where
     small : (b : ℕ) → word_at s b ≤ most_word
     small b = word_below s b bytes
 
-    reading : reading_of (table_of s) ≡ reached (count s + 1 + 1) (count s)
-    unfolding reading_of
-    reading =
-        rw (first-fields, Row.sizes-sound (interties s) (holders s) (small 0) (small 4), later)
-        (lines-read (count s) ([] ∷ []) sheet.few
-        ∙ read_next (reached (count s + 1) (count s)) [] [] refl
-        ∙ read_none (line_read (reached (count s + 1) (count s)) [])
-        ∙ sym (empty-read (reached (count s + 1) (count s)) [] refl))
+    tail : entries_of (count s + 2) (count s) ([] ∷ []) ≡ Ok []
+    tail =
+        entries-cons (count s + 2) (count s) [] []
+        ∙ ap (λ o. past_line o (entries_of (suc (count s + 2)) (count s) []) (entries_of (suc (count s + 2)) (suc (count s)) [])) (sym (line-empty (count s + 2) (count s) [] refl))
+        ∙ entries-end (suc (count s + 2)) (count s)
 
-    said : (say : List (List ℕ) → ℕ) (b : ℕ) → ((j : ℕ) → say (fields comma (line j)) ≡ word_at s (b + 4 * j)) → of_records say (later_lines (table_of s)) ≡ words b (count s)
-    said say b each =
-        ap (of_records say) later
-        ∙ records-append say (lines (count s)) ([] ∷ [])
-        ∙ ap (λ (l : List ℕ). of_records say (lines (count s)) ++ l) (records-empty say [] refl)
-        ∙ append-nil (of_records say (lines (count s)))
-        ∙ lines-say say b (count s) each
+    reading : entries_of 2 0 (later_lines (table_of s)) ≡ Ok (recs (count s))
+    reading =
+        ap (entries_of 2 0) later
+        ∙ lines-read (count s) ([] ∷ []) sheet.few
+        ∙ ap (before (recs (count s))) tail
+        ∙ ap Ok (append-nil (recs (count s)))
 
     -- the bytes: the sizes and the count, the keys, the quantities
     all-bytes : sheet_bytes (interties s) (holders s) (words 12 (count s)) (words (12 + 4 * count s) (count s)) ≡ s
@@ -225,14 +208,18 @@ module _ (s : List ℕ) (bytes : (i : ℕ) → at s i < 256) where
         ∙ ap (λ (l : List ℕ). take 12 s ++ l) (take-append-drop (4 * K) (drop 12 s))
         ∙ take-append-drop 12 s
 
-    sheet-back : sheet_of (table_of s) ≡ s
+    sheet-back : sheet_of (table_of s) ≡ Ok s
     unfolding sheet_of
     sheet-back =
-        let sizes = Row.sizes-back (interties s) (holders s) (small 0) (small 4) in
-        rw (first-fields, sizes.0, sizes.1, said record_key 12 key-said, said record_kw (12 + 4 * count s) kw-said) all-bytes
+        let lines : Result (List Entry) Unreadable = entries_of 2 0 (later_lines (table_of s)) in
+        ap (λ f. sheet_with (sizes_on (sizes_in f)) lines) first-fields
+        ∙ ap (λ z. sheet_with (sizes_on z) lines) (Row.sizes-back (interties s) (holders s) (small 0) (small 4))
+        ∙ ap (sheet_with (Ok (record { interties = interties s; holders = holders s }))) reading
+        ∙ ap (λ k. Ok (sheet_bytes (interties s) (holders s) k (map (λ e. e.kw) (recs (count s))))) (keys-said (count s))
+        ∙ ap (λ q. Ok (sheet_bytes (interties s) (holders s) (words 12 (count s)) q)) (kws-said (count s))
+        ∙ ap Ok all-bytes
 
     -- reading the text of a sheet gives the very bytes of the sheet
-    pub to-sheet-of-table : (memory : List ℕ) →
-        (converted (table_of s) ≡ record { fault = 0; line = 0; column = 0; count = length s }) × (converted_into (table_of s) memory ≡ written 0 s memory)
+    pub to-sheet-of-table : (memory : List ℕ) → (converted (table_of s) ≡ Ok (length s)) × (converted_into (table_of s) memory ≡ written 0 s memory)
     unfolding converted converted_into
-    to-sheet-of-table memory = (rw (reading, sheet-back) refl, rw (reading, sheet-back) refl)
+    to-sheet-of-table memory = (ap length_of sheet-back, ap (λ r. written_by r memory) sheet-back)

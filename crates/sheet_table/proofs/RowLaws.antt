@@ -166,18 +166,18 @@ module _ (I H : ℕ) (label : List ℕ) (same : label ≡ decimal I) (i : I ≤ 
   sizes-put r l m put = (subst (λ (t : List ℕ). Put 0 t r l m) whole put, omega (arith, put.0, sizes-fit))
 
 -- the label of a kind that has a name, and of one that has none
-module _ (kind n : ℕ) (label : List ℕ) (name : take n label ≡ name_of kind) (size : n ≡ length (take n label)) where
-  pub label-name : n ≢ 0 → take n label ≡ label_of kind
+module _ (kind : ℕ) (name : List ℕ) (is : name ≡ name_of kind) where
+  pub label-name : length name ≢ 0 → name ≡ label_of kind
   unfolding label_of
-  label-name some = name ∙ rw (ne_eqb (length (name_of kind)) 0 (λ z. some (size ∙ ap length name ∙ z))) refl
+  label-name some = is ∙ rw (ne_eqb (length (name_of kind)) 0 (λ z. some (ap length is ∙ z))) refl
 
-  pub label-number : n ≡ 0 → (count : ℕ) (text : List ℕ) → kind ≤ 4_294_967_295 → IsDigitCount 10 1 kind count →
+  pub label-number : length name ≡ 0 → (count : ℕ) (text : List ℕ) → kind ≤ 4_294_967_295 → IsDigitCount 10 1 kind count →
       take count text ≡ last_digits 10 count kind →
       take count text ≡ label_of kind
   unfolding label_of
   label-number none count text small fewest spelled =
       label-digits kind count text small fewest spelled
-      ∙ rw (eq-eqb (length (name_of kind)) 0 (sym (sym none ∙ size ∙ ap length name))) refl
+      ∙ rw (eq-eqb (length (name_of kind)) 0 (sym (ap length is) ∙ none)) refl
 
 -- the line of a record, with its label and its figures
 module _ (key kw kind h i r y : ℕ) (label : List ℕ) (k : kind ≡ kind_of key) (same : label ≡ label_of kind)

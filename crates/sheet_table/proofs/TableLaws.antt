@@ -7,6 +7,7 @@ use native.Mathlib.Omega.{arith}
 use lib.Dec.{ltb}
 use lib.ListN.{length}
 use lib.Seq.{length-take-le}
+use Rattle.std.specs.Prelude.{Some, None}
 use Rattle.base.specs.Choice.{pick}
 use Rattle.io.specs.Counts.{IsPrefixLen}
 use Rattle.text.specs.Written.{written}
@@ -22,15 +23,15 @@ use Rattle.sheet_table.specs.Table.{rows_of, sizes_line, table_of}
 
 -- what `to_table` leaves
 abbrev pub Tabled : List ℕ → ℕ → List ℕ → List ℕ → Type 0
-Tabled sheet r l m = (r ≡ length (table_of sheet)) × (m ≡ written 0 (table_of sheet) l) × IsPrefixLen r m
+Tabled sheet r l m = (Some r ≡ pick (bad_length sheet) None (Some (length (table_of sheet)))) × (m ≡ written 0 (table_of sheet) l) × IsPrefixLen r m
 
 module _ (sheet : List ℕ) (b : Bool) (is : b ≡ bad_length sheet) where
   no_text : b ≡ true → table_of sheet ≡ []
   unfolding table_of
   no_text t = rw (← is, t) refl
 
-  pub none-tabled : (l : List ℕ) → b ≡ true → Tabled sheet 0 l l
-  none-tabled l t = (sym (ap length (no_text t)), sym (ap (λ (u : List ℕ). written 0 u l) (no_text t) ∙ written_none 0 l), (omega arith, refl))
+  pub none-tabled : (l : List ℕ) → b ≡ true → (None ≡ pick (bad_length sheet) None (Some (length (table_of sheet)))) × (l ≡ written 0 (table_of sheet) l)
+  none-tabled l t = (rw (← is, t) refl, sym (ap (λ (u : List ℕ). written 0 u l) (no_text t) ∙ written_none 0 l))
 
   module _ (f : b ≡ false) where
     pub passes : bad_length sheet ≡ false
@@ -52,4 +53,4 @@ module _ (sheet : List ℕ) (b : Bool) (is : b ≡ bad_length sheet) where
         put_then 0 p r (sizes_line sheet) (rows_of sheet (count sheet)) l a m (subst (λ (t : List ℕ). Put 0 t p l a) line first) second in
         let put : Put 0 (table_of sheet) r l m = subst (λ (t : List ℕ). Put 0 t r l m) all both in
         let within : r ≤ length m = omega (arith, ap length put.1, length-written 0 (table_of sheet) l) in
-        (omega (arith, put.0), put.1, (within, sym (length-take-le r m within)))
+        (rw passes (ap Some (omega (arith, put.0))), put.1, (within, sym (length-take-le r m within)))

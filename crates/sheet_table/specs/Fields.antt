@@ -1,80 +1,73 @@
--- The fields of a line: what is at fault with them, and what they say.
-use Rattle.std.specs.Prelude.{ℕ, suc, ◌-◌, true, false, List, [], ◌∷◌, eqb, ltb, get_or, drop}
+-- The fields of a line: what they say, or what is at fault with them.
+use Rattle.std.specs.Prelude.{ℕ, suc, ◌-◌, List, [], ◌∷◌, ltb, get_or, drop, Option, Some, None, Result, Ok, Err}
 use Prim.Native.Char.{code}
 use Rattle.base.specs.Choice.{pick}
+use Rattle.base.specs.Kind.{number_of as kind_number}
+use Rattle.base.specs.Words.{at}
+use Rattle.base.specs.declared.kinds.Kind.{Kind}
 use Rattle.text.specs.Decimal.{number_of}
-use Rattle.text.specs.declared.Number.{Number}
-use Rattle.text.specs.declared.Number.TheVariants.{Value, Over, Bad}
-use Rattle.base.specs.Kinds.{new_use_kind}
+use Rattle.text.specs.declared.reading.NumberError.{NumberError}
+use Rattle.text.specs.declared.reading.NumberError.TheVariants.{Over, Bad}
 use Rattle.sheet_keys.specs.Key.{key_kinds, key_holders, key_interties, key_ranks, key_years, key_from}
 use Rattle.sheet_records.specs.Sheet.{most_word}
-use Rattle.sheet_table.specs.Faults.{not_number, too_large, wrong_fields}
 use Rattle.sheet_table.specs.Kinds.{named}
+use Rattle.sheet_table.specs.declared.faults.Fault.{Fault}
+use Rattle.sheet_table.specs.declared.faults.Fault.TheVariants.{NotNumber, TooLarge, WrongFields}
 use Rattle.sheet_table.specs.declared.fields.Flaw.{Flaw}
+use Rattle.sheet_table.specs.declared.fields.Sizes.{Sizes}
+use Rattle.sheet_table.specs.declared.fields.Entry.{Entry}
 
 -- what stands between fields
 abbrev pub comma : ℕ
 comma = code ","
 
--- the fault of a number where at most so much may stand
-abbrev pub number_fault : ℕ → Number → ℕ
-number_fault most (Value n) = pick (ltb most n) too_large 0
-number_fault most Over = too_large
-number_fault most Bad = not_number
-
--- the number that was read, 0 where none was
-abbrev pub value_of : Number → ℕ
-value_of (Value n) = n
-value_of Over = 0
-value_of Bad = 0
+-- a number where at most so much may stand
+abbrev pub within : ℕ → Result ℕ NumberError → Result ℕ Fault
+within most (Ok n) = pick (ltb most n) (Err TooLarge) (Ok n)
+within most (Err Over) = Err TooLarge
+within most (Err Bad) = Err NotNumber
 
 -- a kind, by its name or by its number
-unfoldable pub kind_in : List ℕ → Number
-kind_in field = pick (eqb (named new_use_kind field) 0) (number_of field) (Value (named new_use_kind field))
+abbrev pub kind_or : Option Kind → Result ℕ NumberError → Result ℕ NumberError
+kind_or (Some kind) number = Ok (kind_number kind)
+kind_or None number = number
 
--- the first fault and its column, 0 and 0 where there is none
-abbrev pub flaw : ℕ → ℕ → Flaw
-flaw fault column = record { fault = fault; column = column }
+unfoldable pub kind_in : List ℕ → Result ℕ NumberError
+kind_in field = kind_or (named field) (number_of field)
 
--- the first fault of fields from a column on, of which each may say so much at most
-unfoldable pub fields_flaw : ℕ → List ℕ → List (List ℕ) → Flaw
-fields_flaw column [] [] = flaw 0 0
-fields_flaw column [] (field ∷ fields) = flaw wrong_fields column
-fields_flaw column (most ∷ mosts) [] = flaw wrong_fields column
-fields_flaw column (most ∷ mosts) (field ∷ fields) =
-    elim (eqb (number_fault most (number_of field)) 0) [
-      | true ↦ fields_flaw (suc column) mosts fields
-      | false ↦ flaw (number_fault most (number_of field)) column
-    ]
+-- a fault in a column
+abbrev pub flaw : ℕ → Fault → Flaw
+flaw column fault = record { column = column; fault = fault }
 
--- the first fault of a line, with the number that its first field says and how much it may say
-unfoldable pub line_flaw : Number → ℕ → List ℕ → List (List ℕ) → Flaw
-line_flaw first most mosts fields =
-    pick (eqb (number_fault most first) 0) (fields_flaw 2 mosts (drop 1 fields)) (flaw (number_fault most first) 1)
+-- the number of a column, before those of the columns after it; or the first fault
+abbrev pub with_number : ℕ → Result ℕ Fault → Result (List ℕ) Flaw → Result (List ℕ) Flaw
+with_number column (Err fault) later = Err (flaw column fault)
+with_number column (Ok n) (Ok numbers) = Ok (n ∷ numbers)
+with_number column (Ok n) (Err later) = Err later
 
--- field i of a line
-abbrev pub field_at : List (List ℕ) → ℕ → List ℕ
-field_at fields i = get_or fields i []
-
--- the number that it says
-abbrev pub number_at : List (List ℕ) → ℕ → ℕ
-number_at fields i = value_of (number_of (field_at fields i))
+-- the numbers of fields from a column on, each at most so much
+unfoldable pub numbers_in : ℕ → List ℕ → List (List ℕ) → Result (List ℕ) Flaw
+numbers_in column [] [] = Ok []
+numbers_in column [] (field ∷ fields) = Err (flaw column WrongFields)
+numbers_in column (most ∷ mosts) [] = Err (flaw column WrongFields)
+numbers_in column (most ∷ mosts) (field ∷ fields) =
+    with_number column (within most (number_of field)) (numbers_in (suc column) mosts fields)
 
 -- the first line: I and H
-unfoldable pub sizes_flaw : List (List ℕ) → Flaw
-sizes_flaw fields = line_flaw (number_of (field_at fields 0)) most_word (most_word ∷ []) fields
+abbrev pub sizes_as : Result (List ℕ) Flaw → Result Sizes Flaw
+sizes_as (Ok n) = Ok (record { interties = at n 0; holders = at n 1 })
+sizes_as (Err first) = Err first
+
+unfoldable pub sizes_in : List (List ℕ) → Result Sizes Flaw
+sizes_in fields = sizes_as (numbers_in 1 (most_word ∷ most_word ∷ []) fields)
 
 -- a record: kind, holder, intertie, rank and years within their widths, kilowatts
-unfoldable pub record_flaw : List (List ℕ) → Flaw
-record_flaw fields =
-    line_flaw (kind_in (field_at fields 0)) (key_kinds - 1)
-    ((key_holders - 1) ∷ (key_interties - 1) ∷ (key_ranks - 1) ∷ (key_years - 1) ∷ most_word ∷ []) fields
+abbrev pub entry_as : Result (List ℕ) Flaw → Result Entry Flaw
+entry_as (Ok n) = Ok (record { key = key_from (at n 0) (at n 1) (at n 2) (at n 3) (at n 4); kw = at n 5 })
+entry_as (Err first) = Err first
 
--- its key
-unfoldable pub record_key : List (List ℕ) → ℕ
-record_key fields =
-    key_from (value_of (kind_in (field_at fields 0))) (number_at fields 1) (number_at fields 2) (number_at fields 3) (number_at fields 4)
-
--- its kilowatts
-unfoldable pub record_kw : List (List ℕ) → ℕ
-record_kw fields = number_at fields 5
+unfoldable pub entry_in : List (List ℕ) → Result Entry Flaw
+entry_in fields =
+    entry_as
+    (with_number 1 (within (key_kinds - 1) (kind_in (get_or fields 0 [])))
+    (numbers_in 2 ((key_holders - 1) ∷ (key_interties - 1) ∷ (key_ranks - 1) ∷ (key_years - 1) ∷ most_word ∷ []) (drop 1 fields)))

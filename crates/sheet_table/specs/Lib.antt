@@ -1,5 +1,4 @@
 pub mod Kinds
-pub mod Faults
 pub mod Fields
 pub mod Lines
 pub mod Table

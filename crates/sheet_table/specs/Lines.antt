@@ -1,5 +1,5 @@
--- The lines of a text: the first fault, or the bytes of the sheet that they say.
-use Rattle.std.specs.Prelude.{ℕ, ◌+◌, ◌-◌, true, false, List, [], ◌∷◌, map, eqb, leb, length, take, drop, get_or}
+-- The lines of a text: the bytes of the sheet that they say, or the first fault.
+use Rattle.std.specs.Prelude.{ℕ, suc, ◌-◌, List, [], ◌∷◌, map, eqb, leb, length, take, drop, get_or, Option, Some, None, Result, Ok, Err}
 use Rattle.base.specs.Choice.{pick}
 use Rattle.base.specs.Words.{at}
 use Rattle.text.specs.Written.{written}
@@ -7,10 +7,12 @@ use Rattle.text.specs.Pieces.{fields}
 use Rattle.text.specs.Lines.{line_end}
 use Rattle.base.specs.Limits.{most_records}
 use Rattle.sheet_records.specs.Bytes.{sheet_bytes}
-use Rattle.sheet_table.specs.Faults.{too_many_records}
-use Rattle.sheet_table.specs.Fields.{comma, number_at, sizes_flaw, record_flaw, record_key, record_kw}
-use Rattle.sheet_table.specs.declared.lines.Reading.{Reading}
-use Rattle.sheet_table.specs.declared.Converted.{Converted}
+use Rattle.sheet_table.specs.Fields.{comma, sizes_in, entry_in}
+use Rattle.sheet_table.specs.declared.faults.Fault.TheVariants.{TooManyRecords}
+use Rattle.sheet_table.specs.declared.faults.Unreadable.{Unreadable}
+use Rattle.sheet_table.specs.declared.fields.Flaw.{Flaw}
+use Rattle.sheet_table.specs.declared.fields.Sizes.{Sizes}
+use Rattle.sheet_table.specs.declared.fields.Entry.{Entry}
 
 abbrev pub carriage_return : ℕ
 carriage_return = 13
@@ -23,32 +25,43 @@ bare line = pick (eqb (at line (length line - 1)) carriage_return) (take (length
 unfoldable pub lines_of : List ℕ → List (List ℕ)
 lines_of text = map bare (fields line_end text)
 
--- a reading that stopped at a fault
-abbrev pub stopped : ℕ → ℕ → ℕ → Reading
-stopped fault line column = record { fault = fault; line = line; column = column; count = 0 }
+-- a line's flaw by the number of the line
+abbrev pub in_line : ℕ → Flaw → Unreadable
+in_line number flaw = record { line = number; column = flaw.column; fault = flaw.fault }
 
--- a reading without a fault so far: the lines and the records that were read
-abbrev pub reached : ℕ → ℕ → Reading
-reached line count = record { fault = 0; line = line; column = 0; count = count }
+-- the record of a line that is not empty
+abbrev pub entry_on : ℕ → Result Entry Flaw → Result (Option Entry) Unreadable
+entry_on number (Ok entry) = Ok (Some entry)
+entry_on number (Err flaw) = Err (in_line number flaw)
 
--- the reading after a line more: an empty line says nothing
-unfoldable pub line_read : Reading → List ℕ → Reading
-line_read read line =
-    pick (eqb (length line) 0) (reached (read.line + 1) read.count)
-    (pick (leb most_records read.count) (stopped too_many_records (read.line + 1) 1)
-    (pick (eqb (record_flaw (fields comma line)).fault 0) (reached (read.line + 1) (read.count + 1))
-    (stopped (record_flaw (fields comma line)).fault (read.line + 1) (record_flaw (fields comma line)).column)))
+-- what the line of a number says after so many records: an empty line says nothing
+unfoldable pub entry_of : (number count : ℕ) → List ℕ → Result (Option Entry) Unreadable
+entry_of number count line =
+    pick (eqb (length line) 0) (Ok None)
+    (pick (leb most_records count) (Err (record { line = number; column = 1; fault = TooManyRecords }))
+    (entry_on number (entry_in (fields comma line))))
 
--- the reading after more lines, up to the first fault
-unfoldable pub lines_read : Reading → List (List ℕ) → Reading
-lines_read read [] = read
-lines_read read (line ∷ lines) = elim (eqb read.fault 0) [ true ↦ lines_read (line_read read line) lines | false ↦ read ]
+-- a record before those of the lines after it; or the first fault
+abbrev pub with_entry : Entry → Result (List Entry) Unreadable → Result (List Entry) Unreadable
+with_entry entry (Ok entries) = Ok (entry ∷ entries)
+with_entry entry (Err unreadable) = Err unreadable
 
--- what the records among lines say, in their order
-unfoldable pub of_records : (List (List ℕ) → ℕ) → List (List ℕ) → List ℕ
-of_records say [] = []
-of_records say (line ∷ lines) =
-    elim (eqb (length line) 0) [ true ↦ of_records say lines | false ↦ say (fields comma line) ∷ of_records say lines ]
+-- the records of a line and of those after it, which are `rest` past a line that says nothing and `more` past a record
+abbrev pub past_line : Result (Option Entry) Unreadable → Result (List Entry) Unreadable → Result (List Entry) Unreadable → Result (List Entry) Unreadable
+past_line (Ok None) rest more = rest
+past_line (Ok (Some entry)) rest more = with_entry entry more
+past_line (Err unreadable) rest more = Err unreadable
+
+-- the records of lines from a number on, after so many records
+unfoldable pub entries_of : (number count : ℕ) → List (List ℕ) → Result (List Entry) Unreadable
+entries_of number count [] = Ok []
+entries_of number count (line ∷ lines) =
+    past_line (entry_of number count line) (entries_of (suc number) count lines) (entries_of (suc number) (suc count) lines)
+
+-- the sizes of a first line
+abbrev pub sizes_on : Result Sizes Flaw → Result Sizes Unreadable
+sizes_on (Ok sizes) = Ok sizes
+sizes_on (Err flaw) = Err (in_line 1 flaw)
 
 -- the fields of the first line, and the lines after it
 abbrev pub first_fields : List ℕ → List (List ℕ)
@@ -57,24 +70,28 @@ first_fields text = fields comma (get_or (lines_of text) 0 [])
 abbrev pub later_lines : List ℕ → List (List ℕ)
 later_lines text = drop 1 (lines_of text)
 
--- the reading of a text: its first line, then the others
-unfoldable pub reading_of : List ℕ → Reading
-reading_of text =
-    pick (eqb (sizes_flaw (first_fields text)).fault 0) (lines_read (reached 1 0) (later_lines text))
-    (stopped (sizes_flaw (first_fields text)).fault 1 (sizes_flaw (first_fields text)).column)
+-- the bytes of a sheet of these sizes and records
+abbrev pub sheet_with : Result Sizes Unreadable → Result (List Entry) Unreadable → Result (List ℕ) Unreadable
+sheet_with (Ok sizes) (Ok entries) = Ok (sheet_bytes sizes.interties sizes.holders (map (λ e. e.key) entries) (map (λ e. e.kw) entries))
+sheet_with (Ok sizes) (Err unreadable) = Err unreadable
+sheet_with (Err unreadable) later = Err unreadable
 
--- the sheet that a text without a fault says
-unfoldable pub sheet_of : List ℕ → List ℕ
-sheet_of text =
-    sheet_bytes (number_at (first_fields text) 0) (number_at (first_fields text) 1)
-    (of_records record_key (later_lines text)) (of_records record_kw (later_lines text))
+-- the sheet that a text says: its first line, then the others
+unfoldable pub sheet_of : List ℕ → Result (List ℕ) Unreadable
+sheet_of text = sheet_with (sizes_on (sizes_in (first_fields text))) (entries_of 2 0 (later_lines text))
 
--- what converting a text answers
-unfoldable pub converted : List ℕ → Converted
-converted text =
-    pick (eqb (reading_of text).fault 0) (record { fault = 0; line = 0; column = 0; count = length (sheet_of text) })
-    (record { fault = (reading_of text).fault; line = (reading_of text).line; column = (reading_of text).column; count = 0 })
+-- what converting a text answers: how many bytes the sheet has
+abbrev pub length_of : Result (List ℕ) Unreadable → Result ℕ Unreadable
+length_of (Ok sheet) = Ok (length sheet)
+length_of (Err unreadable) = Err unreadable
+
+unfoldable pub converted : List ℕ → Result ℕ Unreadable
+converted text = length_of (sheet_of text)
 
 -- and what stands in memory then
+abbrev pub written_by : Result (List ℕ) Unreadable → List ℕ → List ℕ
+written_by (Ok sheet) memory = written 0 sheet memory
+written_by (Err unreadable) memory = memory
+
 unfoldable pub converted_into : List ℕ → List ℕ → List ℕ
-converted_into text memory = pick (eqb (reading_of text).fault 0) (written 0 (sheet_of text) memory) memory
+converted_into text memory = written_by (sheet_of text) memory

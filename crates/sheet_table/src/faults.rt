@@ -1,13 +1,63 @@
-// The faults of a table, each named here once; specs/Faults has the same. 0 is no fault.
+// What is wrong with a table.
+use std::fmt;
 
-// Not a number, or not a kind.
-pub const NOT_NUMBER: u32 = 1;
+// The faults of a field.
+#[derive(Clone, Copy, Debug, PartialEq, Eq)]
+pub enum Fault {
+    // Not a number, or not a kind.
+    NotNumber,
+    // Too large for its field.
+    TooLarge,
+    // A field is missing, or there are too many.
+    WrongFields,
+    // Over 1,024 records.
+    TooManyRecords,
+}
 
-// Too large for its field.
-pub const TOO_LARGE: u32 = 2;
+// The first fault of a text, with its line and column, each counted from 1.
+#[derive(Clone, Copy, Debug, PartialEq, Eq)]
+pub struct Unreadable {
+    pub line: usize,
+    pub column: usize,
+    pub fault: Fault,
+}
 
-// A field is missing, or there are too many.
-pub const WRONG_FIELDS: u32 = 3;
+// The columns of the first line.
+const SIZES: [&str; 2] = ["interties", "holders"];
 
-// Over 1,024 records.
-pub const TOO_MANY_RECORDS: u32 = 4;
+// The columns of a record.
+const FIELDS: [&str; 6] = ["kind", "holder", "intertie", "rank", "years", "kw"];
+
+impl Unreadable {
+    // The name of its column, none past the last.
+    fn column_name(&self) -> Option<&'static str> {
+        let place = self.column.checked_sub(1)?;
+        if self.line == 1 {
+            SIZES.get(place).copied()
+        } else {
+            FIELDS.get(place).copied()
+        }
+    }
+
+    // What its fault means in a column that there is.
+    fn reason(&self) -> &'static str {
+        match self.fault {
+            Fault::NotNumber if self.line != 1 && self.column == 1 => "not a kind",
+            Fault::NotNumber => "not a number",
+            Fault::TooLarge => "too large",
+            Fault::WrongFields => "missing",
+            Fault::TooManyRecords => "over 1,024 records",
+        }
+    }
+}
+
+// As `line 3, column 2 (holder): not a number`.
+impl fmt::Display for Unreadable {
+    fn fmt<W: fmt::Write>(&self, f: &mut fmt::Formatter<W>) -> fmt::Result {
+        write!(f, "line {}, column {}", self.line, self.column)?;
+        match self.column_name() {
+            Some(name) => write!(f, " ({}): {}", name, self.reason()),
+            None => f.write_str(": too many fields"),
+        }
+    }
+}

@@ -1,121 +1,102 @@
 // The fields of a line, read as numbers.
 ghost use Rattle.std.specs.Prelude.{◌≡◌, ◌≤◌, ◌<◌, length};
+ghost use Rattle.std.specs.Result.{result_map_both};
 ghost use Rattle.text.specs.Pieces.{fields};
+ghost use Rattle.text.specs.Left.{pieces_left};
 ghost use Rattle.sheet_keys.specs.Key.{key_kinds, key_holders, key_interties, key_ranks, key_years, key_from};
-ghost use Rattle.sheet_table.specs.Fields.{comma, kind_in, fields_flaw};
-ghost use Rattle.sheet_table.specs.Workers.Steps.{fields_past_kind, checked_as, pieces_past, ValuesAre, SizesOf, EntryOf};
+ghost use Rattle.sheet_table.specs.Fields.{comma, within, kind_in, numbers_in, sizes_in, entry_in};
+ghost use Rattle.sheet_table.specs.Workers.Steps.{fields_past_kind, entry_of};
 
-use crate::{faults, kinds};
+use crate::faults::Fault;
+use crate::kinds;
 use sheet_keys::key;
 use sheet_records::words::MOST_WORD;
-use text::Number;
+use text::{NumberError, Pieces};
 
 // The fields of a record after its kind.
 const FIELDS: usize = 5;
 
-// A number and its fault.
-#[derive(Clone, Copy)]
-pub(crate) struct Checked {
-    pub fault: u32,
-    pub value: u32,
-}
-
-// The first fault of a line and its column, 0 and 0 where there is none.
-#[derive(Clone, Copy)]
+// The first fault of a line, and its column.
+#[derive(Clone, Copy, Debug, PartialEq, Eq)]
 pub(crate) struct Flaw {
-    pub fault: u32,
     pub column: usize,
+    pub fault: Fault,
 }
 
-// I and H, or the first fault.
-#[derive(Clone, Copy)]
+// I and H.
+#[derive(Clone, Copy, Debug, PartialEq, Eq)]
 pub(crate) struct Sizes {
-    pub flaw: Flaw,
     pub interties: u32,
     pub holders: u32,
 }
 
-// A record, or its first fault.
-#[derive(Clone, Copy)]
+// A record.
+#[derive(Clone, Copy, Debug, PartialEq, Eq)]
 pub(crate) struct Entry {
-    pub flaw: Flaw,
     pub key: u32,
     pub kw: u32,
 }
 
-// Whether a number is at most so much.
-fn check_number(number: Number, most: u32) -> Checked
-    ensures { result ≡ checked_as most number }
+// A number that is at most so much.
+fn check_number(number: Result<u32, NumberError>, most: u32) -> Result<u32, Fault>
+    ensures { result ≡ within most number }
 {
     match number {
-        Number::Value(value) => {
+        Ok(value) => {
             if most < value {
-                return Checked {
-                    fault: faults::TOO_LARGE,
-                    value,
-                };
+                Err(Fault::TooLarge)
+            } else {
+                Ok(value)
             }
-            Checked { fault: 0, value }
         }
-        Number::Over => Checked {
-            fault: faults::TOO_LARGE,
-            value: 0,
-        },
-        Number::Bad => Checked {
-            fault: faults::NOT_NUMBER,
-            value: 0,
-        },
+        Err(NumberError::Over) => Err(Fault::TooLarge),
+        Err(NumberError::Bad) => Err(Fault::NotNumber),
     }
 }
 
 // A kind, by its name or by its number.
-fn kind_in(field: &[u8]) -> Number
+fn kind_in(field: &[u8]) -> Result<u32, NumberError>
     ensures { result ≡ kind_in field.now }
 {
-    let kind = kinds::named(field);
-    if kind != 0 {
-        return Number::Value(kind);
+    match kinds::named(field) {
+        Some(kind) => Ok(kind.number()),
+        None => text::read_number(field),
     }
-    text::read_number(field)
 }
 
-// Reads the fields of a line past the first, which ends at a place.
-fn read_values(line: &[u8], start: usize, mosts: &[u32], values: &mut [u32]) -> Flaw
-    requires { (start ≤ length line.now)
-        × (length mosts.now ≤ fields_past_kind) × (length values.old ≡ length mosts.now) }
-    ensures { let m = mosts.now in let pieces = pieces_past comma start line.now in
-        (result ≡ fields_flaw 2 m pieces) × (result.fault ≡ 0 → ValuesAre (length m) m pieces values.new) }
+// Reads the fields that are left, from a column on, and no field more.
+fn read_numbers(
+    fields: &mut Pieces,
+    column: usize,
+    mosts: &[u32],
+    values: &mut [u32],
+) -> Result<(), Flaw>
+    requires { (column ≤ 2) × (length mosts.now ≤ fields_past_kind) × (length values.old ≡ length mosts.now) }
+    ensures { result_map_both (λ _. values.new) (λ flaw. flaw) result ≡ numbers_in column mosts.now (pieces_left fields.old) }
 {
-    let mut end = start;
-    let mut i = 0;
-    while i < mosts.len() {
-        if end == line.len() {
-            return Flaw {
-                fault: faults::WRONG_FIELDS,
-                column: i + 2,
-            };
-        }
-        let from = end + 1;
-        end = text::piece_end(line, from, b',');
-        let field = check_number(text::read_number(&line[from..end]), mosts[i]);
-        if field.fault != 0 {
-            return Flaw {
-                fault: field.fault,
-                column: i + 2,
-            };
-        }
-        values[i] = field.value;
-        i += 1;
-    }
-    if end < line.len() {
-        return Flaw {
-            fault: faults::WRONG_FIELDS,
-            column: i + 2,
+    for (i, most) in mosts.iter().enumerate() {
+        let Some(field) = fields.next() else {
+            return Err(Flaw {
+                column: column + i,
+                fault: Fault::WrongFields,
+            });
         };
+        match check_number(text::read_number(field), *most) {
+            Ok(value) => values[i] = value,
+            Err(fault) => {
+                return Err(Flaw {
+                    column: column + i,
+                    fault,
+                });
+            }
+        }
     }
-    Flaw {
-        fault: 0,
-        column: 0,
+    match fields.next() {
+        Some(_) => Err(Flaw {
+            column: column + mosts.len(),
+            fault: Fault::WrongFields,
+        }),
+        None => Ok(()),
     }
 }
 
@@ -129,69 +110,50 @@ fn pack(kind: u32, holder: u32, intertie: u32, rank: u32, years: u32) -> u32
 }
 
 // The first line: I and H.
-pub(crate) fn read_sizes(line: &[u8]) -> Sizes
-    ensures { SizesOf (fields comma line.now) result }
+pub(crate) fn read_sizes(line: &[u8]) -> Result<Sizes, Flaw>
+    ensures { result ≡ sizes_in (fields comma line.now) }
 {
-    let end = text::before(line, b',');
-    let first = check_number(text::read_number(&line[..end]), MOST_WORD);
-    if first.fault != 0 {
-        return Sizes {
-            flaw: Flaw {
-                fault: first.fault,
-                column: 1,
-            },
-            interties: 0,
-            holders: 0,
-        };
-    }
-    let mut second = [0u32; 1];
-    let flaw = read_values(line, end, &[MOST_WORD], &mut second);
-    Sizes {
-        flaw,
-        interties: first.value,
-        holders: second[0],
+    let mut fields = text::split(line, b',');
+    let mut sizes = [0u32; 2];
+    match read_numbers(&mut fields, 1, &[MOST_WORD, MOST_WORD], &mut sizes) {
+        Ok(()) => Ok(Sizes {
+            interties: sizes[0],
+            holders: sizes[1],
+        }),
+        Err(flaw) => Err(flaw),
     }
 }
 
 // The line of a record.
-pub(crate) fn read_entry(line: &[u8]) -> Entry
-    ensures { EntryOf (fields comma line.now) result }
+pub(crate) fn read_entry(line: &[u8]) -> Result<Entry, Flaw>
+    ensures { result ≡ entry_in (fields comma line.now) }
 {
-    let end = text::before(line, b',');
-    let kind = check_number(kind_in(&line[..end]), key::KIND_MASK);
-    if kind.fault != 0 {
-        return Entry {
-            flaw: Flaw {
-                fault: kind.fault,
-                column: 1,
-            },
-            key: 0,
-            kw: 0,
-        };
+    let mut fields = text::split(line, b',');
+    let name = fields.next().unwrap_or(&[]);
+    match check_number(kind_in(name), key::KIND_MASK) {
+        Ok(kind) => read_entry_of(kind, &mut fields),
+        Err(fault) => Err(Flaw { column: 1, fault }),
     }
+}
+
+// The record of a kind, with the fields after it.
+fn read_entry_of(kind: u32, fields: &mut Pieces) -> Result<Entry, Flaw>
+    requires { kind < key_kinds }
+    ensures { result ≡ entry_of kind (pieces_left fields.old) }
+{
+    let mosts = [
+        key::HOLDER_MASK,
+        key::INTERTIE_MASK,
+        key::RANK_MASK,
+        key::YEARS_MASK,
+        MOST_WORD,
+    ];
     let mut values = [0u32; FIELDS];
-    let flaw = read_values(
-        line,
-        end,
-        &[
-            key::HOLDER_MASK,
-            key::INTERTIE_MASK,
-            key::RANK_MASK,
-            key::YEARS_MASK,
-            MOST_WORD,
-        ],
-        &mut values,
-    );
-    if flaw.fault != 0 {
-        return Entry {
-            flaw,
-            key: 0,
-            kw: 0,
-        };
-    }
-    Entry {
-        flaw,
-        key: pack(kind.value, values[0], values[1], values[2], values[3]),
-        kw: values[4],
+    match read_numbers(fields, 2, &mosts, &mut values) {
+        Ok(()) => Ok(Entry {
+            key: pack(kind, values[0], values[1], values[2], values[3]),
+            kw: values[4],
+        }),
+        Err(flaw) => Err(flaw),
     }
 }

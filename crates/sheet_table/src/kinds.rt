@@ -1,65 +1,58 @@
 // The names of the kinds 1 to 6.
-ghost use Rattle.std.specs.Prelude.{◌≡◌, ◌≤◌, length, take};
-ghost use Rattle.io.specs.Counts.{IsPrefixLen};
+ghost use Rattle.std.specs.Prelude.{◌≡◌};
 ghost use Rattle.text.specs.Ascii.{same};
-ghost use Rattle.base.specs.Kinds.{new_use_kind};
-ghost use Rattle.sheet_table.specs.Kinds.{name_of, named};
+ghost use Rattle.sheet_table.specs.Kinds.{name, name_of, named};
 
-use base::kinds;
+use base::kinds::{Kind, NoKind};
 
-// The longest name has 8 bytes.
-pub(crate) const NAME_BYTES: usize = 8;
-
-// Puts the name of a kind at the start of `out`, and answers its length; 0 for a kind without one.
-pub(crate) fn put_name(kind: u32, out: &mut [u8; NAME_BYTES]) -> usize
-    ensures { (take result out.new ≡ name_of kind) × IsPrefixLen result out.new }
+// The name of a kind.
+fn name(kind: Kind) -> &'static [u8]
+    ensures { result.now ≡ name kind }
 {
-    if kind == kinds::LIMIT {
-        *out = [b'l', b'i', b'm', b'i', b't', 0, 0, 0];
-        return 5;
+    match kind {
+        Kind::Limit => b"limit",
+        Kind::OutsideRight => b"outside",
+        Kind::LoadShare => b"load",
+        Kind::ExistingContract => b"existing",
+        Kind::PreRaCommitment => b"prera",
+        Kind::NewUseCommitment => b"newuse",
     }
-    if kind == kinds::OUTSIDE_RIGHT {
-        *out = [b'o', b'u', b't', b's', b'i', b'd', b'e', 0];
-        return 7;
+}
+
+// The name of the kind of a number; empty for one without a name.
+pub(crate) fn name_of(kind: u32) -> &'static [u8]
+    ensures { result.now ≡ name_of kind }
+{
+    match Kind::try_from(kind) {
+        Ok(kind) => name(kind),
+        Err(NoKind) => b"",
     }
-    if kind == kinds::LOAD_SHARE {
-        *out = [b'l', b'o', b'a', b'd', 0, 0, 0, 0];
-        return 4;
-    }
-    if kind == kinds::EXISTING_CONTRACT {
-        *out = [b'e', b'x', b'i', b's', b't', b'i', b'n', b'g'];
-        return 8;
-    }
-    if kind == kinds::PRE_RA_COMMITMENT {
-        *out = [b'p', b'r', b'e', b'r', b'a', 0, 0, 0];
-        return 5;
-    }
-    if kind == kinds::NEW_USE_COMMITMENT {
-        *out = [b'n', b'e', b'w', b'u', b's', b'e', 0, 0];
-        return 6;
-    }
-    0
 }
 
 // Whether a field is the name of a kind.
-fn is_name(field: &[u8], kind: u32) -> bool
-    ensures { result ≡ same field.now (name_of kind) }
+fn is_name(field: &[u8], kind: Kind) -> bool
+    ensures { result ≡ same field.now (name kind) }
 {
-    let mut name = [0u8; NAME_BYTES];
-    let count = put_name(kind, &mut name);
-    text::same(field, &name[..count])
+    text::same(field, name(kind))
 }
 
-// The kind from 1 to 6 that a field names, 0 where it names none.
-pub(crate) fn named(field: &[u8]) -> u32
-    ensures { (result ≡ named new_use_kind field.now) × (result ≤ new_use_kind) }
+// The kind that a field names.
+pub(crate) fn named(field: &[u8]) -> Option<Kind>
+    ensures { result ≡ named field.now }
 {
-    let mut kind = kinds::NEW_USE_COMMITMENT;
-    while 0 < kind {
-        if is_name(field, kind) {
-            return kind;
-        }
-        kind -= 1;
+    if is_name(field, Kind::Limit) {
+        Some(Kind::Limit)
+    } else if is_name(field, Kind::OutsideRight) {
+        Some(Kind::OutsideRight)
+    } else if is_name(field, Kind::LoadShare) {
+        Some(Kind::LoadShare)
+    } else if is_name(field, Kind::ExistingContract) {
+        Some(Kind::ExistingContract)
+    } else if is_name(field, Kind::PreRaCommitment) {
+        Some(Kind::PreRaCommitment)
+    } else if is_name(field, Kind::NewUseCommitment) {
+        Some(Kind::NewUseCommitment)
+    } else {
+        None
     }
-    0
 }

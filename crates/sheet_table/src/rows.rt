@@ -9,7 +9,6 @@ ghost use Rattle.sheet_table.specs.Workers.Steps.{sizes_bytes, row_bytes, table_
 ghost use Rattle.sheet_table.specs.Table.{row_of, rows_of};
 
 use crate::kinds;
-use crate::kinds::NAME_BYTES;
 use sheet_keys::key;
 use sheet_records::reader;
 
@@ -50,10 +49,9 @@ fn put_row(key: u32, kw: u32, out: &mut [u8], at: usize) -> usize
         key::years(key) as u64,
         kw as u64,
     ];
-    let mut name = [0u8; NAME_BYTES];
-    let length = kinds::put_name(kind, &mut name);
-    if length != 0 {
-        return put_line(&name[..length], &figures, out, at);
+    let name = kinds::name_of(kind);
+    if !name.is_empty() {
+        return put_line(name, &figures, out, at);
     }
     let mut digits = [0u8; 20];
     let count = io::decimal(kind as u64, &mut digits);

@@ -17,7 +17,7 @@ use Rattle.io.specs.Counts.{IsPrefixLen}
 use Rattle.base.specs.Choice.{pick}
 use Rattle.base.specs.Words.{at}
 use Rattle.base.proofs.ChoiceLaws.{pick-by}
-use Rattle.text.specs.Pieces.{before, fields}
+use Rattle.text.specs.Pieces.{before, joined, fields}
 use Rattle.text.specs.Left.{fields_from}
 
 -- by cases of a test
@@ -146,3 +146,14 @@ module _ (separator from end : ℕ) (text : List ℕ) (inside : from ≤ length 
       (λ f.
       let none : length text < end + 1 = omega (arith, ltb-false (before separator (drop from text)) (length (drop from text)) f) in
       rw (f, lt-leb (end + 1) (length text) none, n) refl))
+
+-- no more pieces than separators and one
+length-joined : (b : Bool) (byte : ℕ) (pieces : List (List ℕ)) → length (joined b byte pieces) ≤ length pieces + 1
+length-joined true byte pieces = omega arith
+length-joined false byte [] = omega arith
+length-joined false byte (piece ∷ pieces) = omega arith
+
+pub length-fields : (separator : ℕ) (text : List ℕ) → length (fields separator text) ≤ length text + 1
+unfolding fields
+length-fields separator [] = omega arith
+length-fields separator (byte ∷ text) = omega (arith, length-joined (eqb byte separator) byte (fields separator text), length-fields separator text)

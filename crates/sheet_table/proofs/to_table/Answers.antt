@@ -6,7 +6,7 @@ use Rattle.sheet_table.proofs.to_table.Goals as goal
 
 pub returns-then-bad_length : goal.returns-then-bad_length
 returns-then-bad_length c = let a = c.args in
-    none-tabled a.sheet.now _ c.bad_length.ensures _ c.if-bad_length.true
+    (let t = none-tabled a.sheet.now _ c.bad_length.ensures _ c.if-bad_length.true in (t.0, t.1, tt))
 
 pub returns : goal.returns
 returns c = let a = c.args in

@@ -1,17 +1,14 @@
 -- What reading and writing a line leave, step by step.
-use Rattle.std.specs.Prelude.{ℕ, suc, ◌+◌, ◌*◌, ◌≤◌, ◌<◌, ◌≡◌, List, [], ◌++◌, map, ltb, length, take, drop}
-use Rattle.base.specs.Choice.{pick}
+use Rattle.std.specs.Prelude.{ℕ, zero, suc, ◌+◌, ◌-◌, ◌*◌, ◌≡◌, List, [], ◌∷◌, ◌++◌, length, Result, Ok, Err}
+use Rattle.sheet_keys.specs.Key.{key_holders, key_interties, key_ranks, key_years}
+use Rattle.sheet_records.specs.Sheet.{most_word}
+use Rattle.sheet_table.specs.Fields.{with_number, numbers_in, entry_as}
+use Rattle.sheet_table.specs.declared.fields.Flaw.{Flaw}
 use Rattle.base.specs.Limits.{most_records}
 use Rattle.base.specs.Words.{at}
 use Rattle.text.specs.Written.{written}
-use Rattle.text.specs.Pieces.{fields}
-use Rattle.text.specs.Lines.{line_end}
-use Rattle.text.specs.declared.Number.{Number}
-use Rattle.sheet_table.specs.Fields.{number_fault, value_of, number_at, sizes_flaw, record_flaw, record_key, record_kw}
-use Rattle.sheet_table.specs.Lines.{bare, of_records}
-use Rattle.sheet_table.specs.declared.fields.Checked.{Checked}
 use Rattle.sheet_table.specs.declared.fields.Entry.{Entry}
-use Rattle.sheet_table.specs.declared.fields.Sizes.{Sizes}
+use Rattle.sheet_table.specs.declared.faults.Unreadable.{Unreadable}
 
 -- the fields of a record after its kind
 abbrev pub fields_past_kind : ℕ
@@ -31,34 +28,19 @@ table_bytes = sizes_bytes + row_bytes * most_records
 abbrev pub Put : ℕ → List ℕ → ℕ → List ℕ → List ℕ → Type 0
 Put place text next l m = (next ≡ place + length text) × (m ≡ written place text l)
 
--- a number and its fault
-abbrev pub checked_as : ℕ → Number → Checked
-checked_as most number = record { fault = number_fault most number; value = value_of number }
+-- the record of a kind, with the fields after it
+unfoldable pub entry_of : ℕ → List (List ℕ) → Result Entry Flaw
+entry_of kind fields =
+    entry_as
+    (with_number 1 (Ok kind)
+    (numbers_in 2 ((key_holders - 1) ∷ (key_interties - 1) ∷ (key_ranks - 1) ∷ (key_years - 1) ∷ most_word ∷ []) fields))
 
--- the pieces of a text past one that ends at a place
-unfoldable pub pieces_past : ℕ → ℕ → List ℕ → List (List ℕ)
-pieces_past separator end text = pick (ltb end (length text)) (fields separator (drop (suc end) text)) []
+-- the first n records of two tables
+unfoldable pub entries_at : ℕ → List ℕ → List ℕ → List Entry
+entries_at zero keys kws = []
+entries_at (suc n) keys kws = entries_at n keys kws ++ (record { key = at keys n; kw = at kws n } ∷ [])
 
--- the values of n fields, each at most what it may say
-abbrev pub ValuesAre : ℕ → List ℕ → List (List ℕ) → List ℕ → Type 0
-ValuesAre n mosts fields values = (j : ℕ) → j < n → (at values j ≡ number_at fields j) × (at values j ≤ at mosts j)
-
--- the sizes that were read, or their first fault
-abbrev pub SizesOf : List (List ℕ) → Sizes → Type 0
-SizesOf fields sizes =
-    (sizes.flaw ≡ sizes_flaw fields)
-    × (sizes.flaw.fault ≡ 0 → (sizes.interties ≡ number_at fields 0) × (sizes.holders ≡ number_at fields 1))
-
--- a record that was read, or its first fault
-abbrev pub EntryOf : List (List ℕ) → Entry → Type 0
-EntryOf fields entry =
-    (entry.flaw ≡ record_flaw fields)
-    × (entry.flaw.fault ≡ 0 → (entry.key ≡ record_key fields) × (entry.kw ≡ record_kw fields))
-
--- the lines past one that ends at a place
-unfoldable pub lines_past : ℕ → List ℕ → List (List ℕ)
-lines_past end text = map bare (pieces_past line_end end text)
-
--- a table whose first n words became m by what the records among lines say
-abbrev pub Says : (List (List ℕ) → ℕ) → List ℕ → ℕ → List ℕ → ℕ → List (List ℕ) → Type 0
-Says say before n after m lines = take m after ≡ take n before ++ of_records say lines
+-- records that were read into two tables
+abbrev pub read_into : List ℕ → List ℕ → Result ℕ Unreadable → Result (List Entry) Unreadable
+read_into keys kws (Ok n) = Ok (entries_at n keys kws)
+read_into keys kws (Err unreadable) = Err unreadable

@@ -2,10 +2,11 @@ use Rattle.base.proofs.Prelude.{◌≡◌, ◌+◌, ◌^◌, ◌<◌, sym, ap, �
 use Rattle.std.specs.Iterator.Adapters.{enumerate_source, enumerate_count}
 use Rattle.text.specs.Pieces.{fields}
 use Rattle.text.specs.Left.{pieces_left}
+use Rattle.text.proofs.PieceLaws.{length-fields}
 use mathlib.Core.Logic.{inl}
 use Rattle.journal.specs.Calls.{line_of}
 use Rattle.journal.specs.Journals.{answer_from}
-use Rattle.journal.proofs.JournalLaws.{check-stops, check-turn, check-ends, counted-most, length-fields}
+use Rattle.journal.proofs.JournalLaws.{check-stops, check-turn, check-ends, counted-most}
 use Rattle.journal.proofs.lines.check.Goals as goal
 
 pub loop-place-init-derived : goal.loop-place-init-derived

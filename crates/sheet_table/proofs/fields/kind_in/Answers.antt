@@ -1,10 +1,10 @@
--- `fields::kind_in` meets its contract: a name, or else a number.
-use Rattle.base.proofs.Prelude.{rules}
+-- `kind_in` meets its contract: a name, or else a number.
+use Rattle.base.proofs.Prelude.{sym, ◌∙◌, rules}
 use Rattle.sheet_table.proofs.FieldLaws.{kind-named, kind-numbered}
 use Rattle.sheet_table.proofs.fields.kind_in.Goals as goal
 
-pub returns-then-kind-ne0 : goal.returns-then-kind-ne0
-returns-then-kind-ne0 c = search (rules, kind-named)
+pub returns-in-Some : goal.returns-in-Some
+returns-in-Some c = kind-named c.args.field.now c.in-Some.kind _ (sym c.in-Some.is ∙ c.named.ensures) c.number.ensures
 
-pub returns : goal.returns
-returns c = search (rules, kind-numbered)
+pub returns-in-None : goal.returns-in-None
+returns-in-None c = search (rules, kind-numbered)

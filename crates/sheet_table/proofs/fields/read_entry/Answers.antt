@@ -1,25 +1,23 @@
--- `fields::read_entry` meets its contract: the kind, then the other fields (`EntryLaws`).
-use Rattle.base.proofs.Prelude.{rules}
-use Rattle.sheet_table.proofs.EntryLaws.{record-first, record-stops, widths, record-stands}
+-- `read_entry` meets its contract: the kind, then the other fields.
+use Rattle.base.proofs.Prelude.{refl, sym, ap, ◌∙◌, arith}
+use Rattle.std.specs.Prelude.{get_or, drop}
+use Rattle.base.proofs.Prelude.{[]}
+use Rattle.sheet_table.specs.Fields.{within}
+use Rattle.sheet_table.proofs.FieldLaws.{first-piece, within-most}
+use Rattle.sheet_table.proofs.EntryLaws.{kind-read, kind-stop}
 use Rattle.sheet_table.proofs.fields.read_entry.Goals as goal
 
-pub returns : goal.returns
-returns c =
-    let read = c.read_values-flaw in
-    record-stands _ _ c.before-end.ensures.0 _ _
-    c.kind_in.ensures
-    c.check_number-kind.ensures c.if-kind-ne0.false read.new.values
-    (read.ensures.1 c.if-flaw-ne0.false) _ _ read.ensures.0 c.pack.ensures
+pub read_entry_of-requires : goal.read_entry_of-requires
+read_entry_of-requires c = omega (arith, within-most 15 c.in-Ok.kind c.kind_in.result (sym c.in-Ok.is ∙ c.check_number.ensures))
 
-pub pack-requires : goal.pack-requires
-pack-requires c =
-    let read = c.read_values-flaw in
-    widths _ _ c.before-end.ensures.0 _ _ c.kind_in.ensures
-    c.check_number-kind.ensures c.if-kind-ne0.false read.new.values
-    (read.ensures.1 c.if-flaw-ne0.false)
+pub returns-in-Ok : goal.returns-in-Ok
+returns-in-Ok c =
+    let first = first-piece c.split-fields.result c.next.new.self c.next.result c.unwrap_or-name.result _ c.next.ensures.steps c.unwrap_or-name.ensures refl in
+    kind-read _ _ c.unwrap_or-name.result.now (first.0 ∙ ap (λ l. get_or l 0 []) c.split-fields.ensures) (first.1 ∙ ap (drop 1) c.split-fields.ensures)
+    c.in-Ok.kind _ (sym c.in-Ok.is ∙ c.check_number.ensures ∙ ap (within 15) c.kind_in.ensures) c.read_entry_of.ensures
 
-pub returns-then-kind-ne0 : goal.returns-then-kind-ne0
-returns-then-kind-ne0 c = search (rules, record-first)
-
-pub returns-then-flaw-ne0 : goal.returns-then-flaw-ne0
-returns-then-flaw-ne0 c = search (rules, record-stops)
+pub returns-in-Err : goal.returns-in-Err
+returns-in-Err c =
+    let first = first-piece c.split-fields.result c.next.new.self c.next.result c.unwrap_or-name.result _ c.next.ensures.steps c.unwrap_or-name.ensures refl in
+    kind-stop _ _ c.unwrap_or-name.result.now (first.0 ∙ ap (λ l. get_or l 0 []) c.split-fields.ensures) (first.1 ∙ ap (drop 1) c.split-fields.ensures)
+    c.in-Err.fault (sym c.in-Err.is ∙ c.check_number.ensures ∙ ap (within 15) c.kind_in.ensures)

@@ -1,20 +1,32 @@
-use Rattle.base.proofs.Prelude.{ℕ, ◌≡◌, refl, sym, ap, ◌∙◌, arith, rules}
+-- `named` meets its contract, name by name.
 use Rattle.sheet_table.specs.Kinds.{named}
-use Rattle.sheet_table.proofs.KindLaws.{name-is, name-not, named_none}
+use Rattle.sheet_table.proofs.KindLaws.{choices}
 use Rattle.sheet_table.proofs.kinds.named.Goals as goal
 
-pub returns : goal.returns
-returns c =
-    let t = c.loop-kind in
-    let f = c.args.field.now in
-    let none : t.kind ≡ 0 = omega arith in
-    (sym (named_none f) ∙ ap (λ (k : ℕ). named k f) (sym none) ∙ t.invariant.1, search rules)
-
-pub loop-kind-init : goal.loop-kind-init
-loop-kind-init c = (search rules, refl)
-
 pub returns-then-is_name : goal.returns-then-is_name
-returns-then-is_name c = search (rules, name-is)
+unfolding named
+returns-then-is_name c = search choices depth 8
 
-pub loop-kind-preserved : goal.loop-kind-preserved
-loop-kind-preserved c = search (rules, name-not)
+pub returns-then-is_name-2 : goal.returns-then-is_name-2
+unfolding named
+returns-then-is_name-2 c = search choices depth 8
+
+pub returns-then-is_name-3 : goal.returns-then-is_name-3
+unfolding named
+returns-then-is_name-3 c = search choices depth 8
+
+pub returns-then-is_name-4 : goal.returns-then-is_name-4
+unfolding named
+returns-then-is_name-4 c = search choices depth 8
+
+pub returns-then-is_name-5 : goal.returns-then-is_name-5
+unfolding named
+returns-then-is_name-5 c = search choices depth 8
+
+pub returns-then-is_name-6 : goal.returns-then-is_name-6
+unfolding named
+returns-then-is_name-6 c = search choices depth 8
+
+pub returns-else-is_name-6 : goal.returns-else-is_name-6
+unfolding named
+returns-else-is_name-6 c = search choices depth 8

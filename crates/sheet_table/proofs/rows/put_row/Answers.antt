@@ -5,32 +5,38 @@ use Rattle.sheet_table.proofs.rows.put_row.Goals as goal
 
 pub put_line-requires : goal.put_line-requires
 put_line-requires c =
-    let name = c.put_name-length.ensures in let a = c.args in
+    let name = c.name_of-name.ensures in let a = c.args in
     row-asks a.key a.kw _ _ _ _ _ _ c.kind-kind.ensures
-    (label-name _ _ _ name.0 name.1.1 c.if-length-ne0.true)
+    (label-name _ _ name (search rules))
     c.holder.ensures c.intertie.ensures
     c.rank.ensures c.years.ensures (search rules) (search rules)
     _ _ c.requires
 
 pub put_line-requires-2 : goal.put_line-requires-2
 put_line-requires-2 c =
-    let name = c.put_name-length.ensures in let a = c.args in
+    let name = c.name_of-name.ensures in let a = c.args in
     let spelled = c.decimal-count.ensures in
     row-asks a.key a.kw _ _ _ _ _ _ c.kind-kind.ensures
-    (label-number _ _ _ name.0 name.1.1 c.if-length-ne0.false _ _ (search rules) spelled.len spelled.digits)
+    (label-number _ _ name (search rules) _ _ (search rules) spelled.len spelled.digits)
     c.holder.ensures c.intertie.ensures
     c.rank.ensures c.years.ensures (search rules) (search rules)
     _ _ c.requires
 
 pub returns : goal.returns
 returns c =
-    let name = c.put_name-length.ensures in let a = c.args in
+    let name = c.name_of-name.ensures in let a = c.args in
     let spelled = c.decimal-count.ensures in
     row_put a.key a.kw _ _ _ _ _ _ c.kind-kind.ensures
-    (label-number _ _ _ name.0 name.1.1 c.if-length-ne0.false _ _ (search rules) spelled.len spelled.digits)
+    (label-number _ _ name (search rules) _ _ (search rules) spelled.len spelled.digits)
     c.holder.ensures c.intertie.ensures
     c.rank.ensures c.years.ensures
     _ _ _ _ c.put_line-2.ensures
 
-pub returns-then-length-ne0 : goal.returns-then-length-ne0
-returns-then-length-ne0 c = search (rules, label-name, row_put)
+pub returns-then-not-is_empty : goal.returns-then-not-is_empty
+returns-then-not-is_empty c =
+    let name = c.name_of-name.ensures in let a = c.args in
+    row_put a.key a.kw _ _ _ _ _ _ c.kind-kind.ensures
+    (label-name _ _ name (search rules))
+    c.holder.ensures c.intertie.ensures
+    c.rank.ensures c.years.ensures
+    _ _ _ _ c.put_line.ensures
