@@ -4,9 +4,10 @@
 
 mod reason;
 
-ghost use Rattle.std.specs.Prelude.{◌≡◌, ◌<◌, ◌↔◌, IsTrue, false, IfOk, IsNone, IsSome, length, take};
+ghost use Rattle.std.specs.Prelude.{◌≡◌, ◌<◌, IfOk, IsErr, length, take};
 ghost use Rattle.std.specs.Io.KnownBytes.{Consumes, IsAtEnd};
 ghost use Rattle.io.specs.Counts.{IsPrefixLen};
+ghost use Rattle.input.specs.Counts.{read_count};
 
 use reason::Reason;
 use std::env::FillError;
@@ -21,74 +22,55 @@ const TOO_LONG: i32 = 36;
 
 const NOT_TEXT: i32 = 84;
 
-// What was read: whether it is the whole file or as much of it as there is room for, how many bytes it is, and
-// why a read failed, where one did.
+// A read that failed: how many bytes were read before it, and why.
 #[derive(Drop)]
-pub struct Read {
-    pub whole: bool,
+pub struct ReadError {
     pub count: usize,
-    pub error: Option<Error>,
+    pub error: Error,
 }
 
-// Reads a file into the start of a buffer, to its end or as much as there is room for. Where a read fails, what
-// was read is not the whole. The bytes that were read are those that the file began with, and no other is taken
-// from it.
-pub fn read_whole<R: std::io::Read>(file: &mut R, buffer: &mut [u8]) -> Read
-    ensures within { IsPrefixLen result.count buffer.new }
-    ensures bytes { Consumes (R.remaining file.old) (R.remaining file.new) (take result.count buffer.new) }
-    ensures whole { IsTrue result.whole → result.count < length buffer.new → IsAtEnd (R.remaining file.new) }
-    ensures error { IsTrue result.whole ↔ IsNone result.error }
+// Reads a file into the start of a buffer, to its end or as much as there is room for, and answers how many bytes that
+// is. The bytes that were read, also before a read that fails, are those that the file began with, and no other is
+// taken from it.
+pub fn read_whole<R: std::io::Read>(file: &mut R, buffer: &mut [u8]) -> Result<usize, ReadError>
+    ensures within { IsPrefixLen (read_count result) buffer.new }
+    ensures bytes { Consumes (R.remaining file.old) (R.remaining file.new) (take (read_count result) buffer.new) }
+    ensures whole { IfOk result (λ count. count < length buffer.new → IsAtEnd (R.remaining file.new)) }
 {
     let mut count = 0;
     while count < buffer.len() {
         match file.read(&mut buffer[count..]) {
             Ok(0) => break,
             Ok(n) => count += n,
-            Err(error) => return part(count, error),
+            Err(error) => return Err(ReadError { count, error }),
         }
     }
-    whole(count)
+    Ok(count)
 }
 
 // Reads the file of a name in the same way. Where it can't be opened, nothing is read.
-pub fn read_file<F: Files>(files: &F, name: &[u8], buffer: &mut [u8]) -> Read
-    ensures within { IsPrefixLen result.count buffer.new }
-    ensures error { IsTrue result.whole ↔ IsNone result.error }
+pub fn read_file<F: Files>(files: &F, name: &[u8], buffer: &mut [u8]) -> Result<usize, ReadError>
+    ensures within { IsPrefixLen (read_count result) buffer.new }
 {
-    match open(files, name) {
+    read_opened(open(files, name), buffer)
+}
+
+// Reads a file that was opened, if it was.
+fn read_opened<R: std::io::Read + Drop>(
+    file: Result<R, Error>,
+    buffer: &mut [u8],
+) -> Result<usize, ReadError>
+    ensures within { IsPrefixLen (read_count result) buffer.new }
+    ensures unopened { IsErr file → IsErr result }
+{
+    match file {
         Ok(mut file) => read_whole(&mut file, buffer),
-        Err(error) => part(0, error),
+        Err(error) => Err(ReadError { count: 0, error }),
     }
 }
 
 fn open<F: Files>(files: &F, name: &[u8]) -> Result<F::File, Error> {
     fs::open(files, file_name(name)?)
-}
-
-// All that there is, or that there is room for.
-fn whole(count: usize) -> Read
-    ensures count { result.count ≡ count }
-    ensures whole { IsTrue result.whole }
-    ensures error { IsNone result.error }
-{
-    Read {
-        whole: true,
-        count,
-        error: None,
-    }
-}
-
-// What was read before a read that failed.
-fn part(count: usize, error: Error) -> Read
-    ensures count { result.count ≡ count }
-    ensures whole { result.whole ≡ false }
-    ensures error { IsSome result.error }
-{
-    Read {
-        whole: false,
-        count,
-        error: Some(error),
-    }
 }
 
 // Whether the program was called with an argument of that number, its own name being argument 0.
@@ -103,7 +85,7 @@ pub fn argument<'a>(
     buffer: &'a mut [u8],
 ) -> Result<&'a [u8], Error> {
     match env.arg(argument, buffer) {
-        Ok(count) => Ok(&buffer[..count]),
+        Ok(length) => Ok(&buffer[..length]),
         Err(FillError::NotPresent) => Err(Error::from_raw_os_error(INVALID)),
         Err(FillError::TooLong) => Err(Error::from_raw_os_error(TOO_LONG)),
     }
