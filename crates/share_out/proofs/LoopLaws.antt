@@ -4,7 +4,7 @@ use mathlib.Core.Path.{◌≡◌, refl, sym, ap, ◌∙◌}
 use mathlib.Core.Bool.{true, ◌&&◌}
 use mathlib.Core.List.{List}
 use mathlib.Core.Logic.{⊎_elim}
-use native.Mathlib.Nat.{le_refl, le_trans, min_comm, eq-zero-or-pos, div-zero, pos_of_ne-zero, sub-zero}
+use native.Mathlib.Nat.{le_refl, le_trans, eq-zero-or-pos, div-zero, pos_of_ne-zero, sub-zero}
 use native.Mathlib.Omega.{arith}
 use lib.ListN.{length, set, length-set}
 use lib.Seq.{ext_get_or}
@@ -145,16 +145,16 @@ module _ (claims weights : List ℕ) where
 
   -- the part by weight as the code finds it
   pub part-is : (R : ℕ) (g grants brought : List ℕ) (i all u w part kw : ℕ) → i < length claims → Weighed all claims weights g brought →
-      at grants i ≡ at g i → u ≡ at claims i - at grants i → w ≡ at brought i → part ≡ R * w / all → kw ≡ min part u →
+      at grants i ≡ at g i → u ≡ at claims i - at grants i → w ≡ at brought i → part ≡ R * w / all → kw ≡ min u part →
       kw ≡ by_weight claims weights R g i
   unfolding is_open
   part-is R g grants brought i all u w part kw l a same e v d h =
-      rw (h, min_comm part u, d, v, a.each i l, a.total, e, same)
+      rw (h, d, v, a.each i l, a.total, e, same)
       (open-weight-part R (at weights i) (open_weights claims weights g) (unmet claims g i) ∙ sym (by_weight-is claims weights R g i))
 
   -- and the weight that the holder then brings
   pub after_is : (R : ℕ) (g grants brought : List ℕ) (i all u w part kw x : ℕ) → i < length claims → Weighed all claims weights g brought →
-      at grants i ≡ at g i → u ≡ at claims i - at grants i → w ≡ at brought i → part ≡ R * w / all → kw ≡ min part u →
+      at grants i ≡ at g i → u ≡ at claims i - at grants i → w ≡ at brought i → part ≡ R * w / all → kw ≡ min u part →
       x ≡ pick (ltb part u) w 0 → x ≡ open_weight claims weights (weighted R g) i
   unfolding is_open
   after_is R g grants brought i all u w part kw x l a same e v d h y =
@@ -347,30 +347,30 @@ module _ {pool R all made given still i : ℕ} {claims weights g brought grants 
       (b.weighed some) e later-weight
 
   -- its part by weight as the code finds it
-  pub turns-kw : {part kw : ℕ} → i < length claims → part ≡ R * at noted i / all → kw ≡ min part (at claims i - at grants i) →
+  pub turns-kw : {part kw : ℕ} → i < length claims → part ≡ R * at noted i / all → kw ≡ min (at claims i - at grants i) part →
       kw ≡ by_weight claims weights R g i
   turns-kw {part} {kw} l d h =
       part-is claims weights R g grants brought i all _ (at noted i) part kw l (b.weighed some) later-grant refl later-weight d h
 
   -- and the weight that it then brings
-  pub turns-weight : {part kw x : ℕ} → i < length claims → part ≡ R * at noted i / all → kw ≡ min part (at claims i - at grants i) →
+  pub turns-weight : {part kw x : ℕ} → i < length claims → part ≡ R * at noted i / all → kw ≡ min (at claims i - at grants i) part →
       x ≡ pick (ltb part (at claims i - at grants i)) (at noted i) 0 → x ≡ open_weight claims weights (weighted claims weights R g) i
   turns-weight {part} {kw} {x} l d h y =
       after_is claims weights R g grants brought i all _ (at noted i) part kw x l (b.weighed some) later-grant refl later-weight d h y
 
   -- what is given so far is within what is left
-  pub turns-given : {part kw : ℕ} → i < length claims → part ≡ R * at noted i / all → kw ≡ min part (at claims i - at grants i) → given + kw ≤ R
+  pub turns-given : {part kw : ℕ} → i < length claims → part ≡ R * at noted i / all → kw ≡ min (at claims i - at grants i) part → given + kw ≤ R
   turns-given {part} {kw} l d h =
       le_trans (given-most _ g (length claims) grants given i kw t.parts l (turns-kw l d h)) (by_weight-within claims weights R g)
 
   -- and the weights noted are few
   pub turns-still : {part kw x : ℕ} {fresh : List ℕ} → Ready pool claims weights fresh → i < length claims → part ≡ R * at noted i / all →
-      kw ≡ min part (at claims i - at grants i) → x ≡ pick (ltb part (at claims i - at grants i)) (at noted i) 0 → still + x ≤ length claims * 100000000
+      kw ≡ min (at claims i - at grants i) part → x ≡ pick (ltb part (at claims i - at grants i)) (at noted i) 0 → still + x ≤ length claims * 100000000
   turns-still {part} {kw} {x} r l d h y =
       noted-most _ brought (length claims) 100000000 noted still i x
       (λ j m. open_weight-most claims weights 100000000 (weighted claims weights R g) j (r.weighted j m)) t.notes l (turns-weight l d h y)
 
-  pub turns-next : {part kw x : ℕ} → i < length claims → part ≡ R * at noted i / all → kw ≡ min part (at claims i - at grants i) →
+  pub turns-next : {part kw x : ℕ} → i < length claims → part ≡ R * at noted i / all → kw ≡ min (at claims i - at grants i) part →
       x ≡ pick (ltb part (at claims i - at grants i)) (at noted i) 0 →
       Turns R claims weights g brought (set grants i (at grants i + kw)) (set noted i x) (given + kw) (still + x) (i + 1)
   turns-next {part} {kw} {x} l d h y =

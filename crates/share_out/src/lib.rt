@@ -225,7 +225,7 @@ fn by_passes(pool: u64, claims: &[u64], weights: &[u64], grants: &mut [u64]) -> 
         for (i, claim) in claims.iter().enumerate() {
             let unmet = *claim - grants[i];
             let part = portion(left, open_weights[i], all, rate);
-            let kw = part.min(unmet);
+            let kw = unmet.min(part);
             grants[i] += kw;
             given += kw;
             let weight = weight_after(part, unmet, open_weights[i]);
