@@ -2,6 +2,7 @@
 #![tactic(auto)]
 
 ghost use Rattle.std.specs.Prelude.{◌≡◌};
+ghost use Rattle.base.specs.Refused.{number_in};
 ghost use Rattle.zankurbe.specs.Version.{version};
 ghost use Rattle.share_out.specs.Rule.{share_out};
 ghost use Rattle.sheet_records.specs.Refusal.{sheet_refusal};
@@ -19,6 +20,7 @@ ghost use Rattle.lists.specs.Encoded.{run};
 ghost use Rattle.carrying.specs.Carry.{carried};
 
 use base::Answer;
+use base::refusals::Refusal;
 use posting::rows::NUMBERS;
 use same::Verdict;
 
@@ -31,6 +33,16 @@ pub extern "C" fn zankurbe_version() -> u32
     ensures { result ≡ version }
 {
     VERSION
+}
+
+// The number of an outcome's refusal, or 0.
+fn number_in(outcome: Result<(), Refusal>) -> u32
+    ensures { result ≡ number_in outcome }
+{
+    match outcome {
+        Ok(()) => 0,
+        Err(refusal) => refusal.number(),
+    }
 }
 
 // Shares a pool out over claims by weight (share_out::share_out).
@@ -52,10 +64,7 @@ pub extern "C" fn zankurbe_share_out(
 pub extern "C" fn zankurbe_sheet_refusal(sheet: &[u8]) -> u32
     ensures { result ≡ sheet_refusal sheet.now }
 {
-    match sheet_reading::refusal::sheet_refusal(sheet) {
-        Ok(()) => 0,
-        Err(refusal) => refusal.number(),
-    }
+    number_in(sheet_reading::refusal::sheet_refusal(sheet))
 }
 
 // The refusal that every call of the year begins with: 5, 6, or 0.
@@ -63,10 +72,7 @@ pub extern "C" fn zankurbe_sheet_refusal(sheet: &[u8]) -> u32
 pub extern "C" fn zankurbe_state_refusal(state: &[u32]) -> u32
     ensures { result ≡ state_refusal state.now }
 {
-    match orderly::check_state(state) {
-        Ok(()) => 0,
-        Err(refusal) => refusal.number(),
-    }
+    number_in(orderly::check_state(state))
 }
 
 // Opens the year from a sheet (Steps 1 to 7); answers T.

@@ -10,4 +10,3 @@ pairs state field holder i = at state (place (field + holder) i)
 abbrev pub invariant-loop-intertie : goal.invariant-loop-intertie
 invariant-loop-intertie l =
     (l.sum ≡ sum_to l.intertie (pairs l.state l.field l.holder)) × (l.sum ≤ l.intertie * 4294967295)
-
