@@ -52,7 +52,8 @@ fn is_holder(state: &[u32; STATE_WORDS], holder: u32) -> bool
     sums::sizes_in_range(state) & (holder < state::holder_count(state))
 }
 
-// The figures of an intertie; all 0 where the state has none of that number.
+// The figures of an intertie; all 0 where the state has none of that number, as they are printed then (an Option would be no
+// plainer).
 pub fn intertie_figures(state: &[u32; STATE_WORDS], intertie: u32) -> IntertieFigures
     ensures { result ≡ intertie_figures state.now intertie }
 {

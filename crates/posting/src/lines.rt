@@ -13,7 +13,8 @@ use base::limits::{MOST_HOLDERS, STATE_WORDS};
 use state::layout;
 use state::layout::ROW_WORDS;
 
-// Copies the first words of a row of the state.
+// Copies the first words of a row of the state. Of the three functions that fill a row each has its own loop of one line: one
+// loop that takes a closure would be no plainer, since its contract would have to say what every closure answers.
 fn copy_row(
     state: &[u32; STATE_WORDS],
     row: usize,

@@ -14,10 +14,8 @@ use Rattle.sheet_records.specs.Sheet.{interties, holders}
 use Rattle.sheet_records.specs.Refusal.{sheet_refusal}
 use Rattle.sheet_reading.proofs.SheetLaws.{first-words, standing}
 use Rattle.steps.specs.Inputs.{Inputs, of_sheet}
-use Rattle.steps.specs.Step2.{available_total, load_share_quantity}
-use Rattle.steps.specs.Step4a.{existing_on}
-use Rattle.steps.specs.Step5to7.{held, step5_share, unassigned}
-use Rattle.posting.specs.Post.{pre_ra_on, new_use_on, Posted, posted}
+use Rattle.steps.specs.Step2.{available_total}
+use Rattle.posting.specs.Post.{Posted, posted}
 use Rattle.posting.proofs.PostLaws.{post-done}
 use Rattle.posting.proofs.PostedRows.{Rows, posted-rows}
 use Rattle.text.specs.Written.{appended}

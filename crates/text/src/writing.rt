@@ -11,7 +11,8 @@ const LABEL_BYTES: usize = 20;
 
 const FIGURES: usize = 8;
 
-// A line. It is empty where the label has over 20 bytes or there are over 8 figures.
+// A line. It is empty where the label has over 20 bytes or there are over 8 figures; an Option would be no plainer, since
+// `put_line` puts nothing then.
 pub fn line(label: &[u8], separator: u8, figures: &[u64]) -> ArrayVec<u8, LINE_BYTES>
     ensures { result.items ≡ bounded_line label.now separator figures.now }
 {

@@ -1,4 +1,4 @@
-use Rattle.base.proofs.Prelude.{arith, rules}
+use Rattle.base.proofs.Prelude.{arith}
 use Rattle.text.proofs.EachLaws.{each-none, each_turn}
 use Rattle.posting_text.specs.Workers.Columns.{holder_by_rows}
 use Rattle.posting_text.proofs.TextLaws.{holder-few}
