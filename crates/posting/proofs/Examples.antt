@@ -13,7 +13,7 @@ use Rattle.base.proofs.ChoiceLaws.{pick-by}
 use Rattle.base.proofs.SumLaws.{sum_to-zeros, sum_to-same}
 use Rattle.base.proofs.WordLaws.{length-tab, at-tab, tab-same, tab-at}
 use Rattle.state.specs.Layout.{place}
-use Rattle.sheet_records.specs.declared.cursor.Record.{Record}
+use Rattle.sheet_records.specs.declared.reader.Record.{Record}
 use Rattle.sheet_records.specs.Sheet.{word_at, sum_over, limit, outside, load_share, existing, pre_ra, new_use_kw}
 use Rattle.sheet_records.specs.Sheet as Sheet
 use Rattle.sheet_records.specs.Refusal.{bad_length, bad_sizes, record_stands, records_stand, one_limit_each, one_load_share_each, no_rank_twice, rules_hold, limits_hold, sheet_refusal}
