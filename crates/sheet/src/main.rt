@@ -4,7 +4,7 @@
 
 use base::limits::MOST_SHEET_BYTES;
 use input::{fail, say};
-use sheet_table::{Converted, TABLE_BYTES, faults};
+use sheet_table::TABLE_BYTES;
 use std::io::Read;
 use std::rt::{Env, Files};
 
@@ -15,24 +15,6 @@ const MOST_TEXT_BYTES: usize = 131_072;
 const TEXT_ROOM: usize = MOST_TEXT_BYTES + 1;
 
 const SHEET_ROOM: usize = MOST_SHEET_BYTES + 1;
-
-// The columns of the first line, counted from 1.
-const INTERTIES: usize = 1;
-
-const HOLDERS: usize = 2;
-
-// The columns of a record.
-const KIND: usize = 1;
-
-const HOLDER: usize = 2;
-
-const INTERTIE: usize = 3;
-
-const RANK: usize = 4;
-
-const YEARS: usize = 5;
-
-const KW: usize = 6;
 
 // The longest name of a file that an argument can give.
 const NAME_ROOM: usize = 4_096;
@@ -56,98 +38,28 @@ fn main(rt: HostRuntime) {
 // Text on standard input becomes a sheet on standard output.
 fn convert_input(stdin: &mut impl Read, stdout: &impl Print, stderr: &impl Print) {
     let mut text = [0u8; TEXT_ROOM];
-    let read = input::read_whole(stdin, &mut text);
-    if let Some(error) = read.error {
-        fail(stderr, b"standard input", error);
-        return;
+    match input::read_whole(stdin, &mut text) {
+        Ok(count) if TEXT_ROOM <= count => say(stderr, b"the text has over 131,072 bytes\n"),
+        Ok(count) => write_sheet(stdout, stderr, &text[..count]),
+        Err(failed) => fail(stderr, b"standard input", failed.error),
     }
-    let count = read.count;
-    if TEXT_ROOM <= count {
-        say(stderr, b"the text has over 131,072 bytes\n");
-        return;
-    }
-    write_sheet(stdout, stderr, &text[..count]);
 }
 
 // Writes the sheet that a text says, or says its fault.
 fn write_sheet(stdout: &impl Print, stderr: &impl Print, text: &[u8]) {
     let mut sheet = [0u8; MOST_SHEET_BYTES];
-    let converted = sheet_table::to_sheet(text, &mut sheet);
-    if converted.fault != 0 {
-        say_fault(stderr, converted);
-        return;
+    match sheet_table::to_sheet(text, &mut sheet) {
+        Ok(count) => write_out(stdout, stderr, &sheet[..count]),
+        Err(unreadable) => {
+            let _ = println!(stderr; "{unreadable}");
+        }
     }
-    let count = converted.count;
-    write_out(stdout, stderr, &sheet[..count]);
 }
 
 // Writes to standard output. Where that fails, standard error says why.
 fn write_out(stdout: &impl Print, stderr: &impl Print, bytes: &[u8]) {
     if let Err(error) = stdout.write_all(bytes) {
         fail(stderr, b"standard output", error);
-    }
-}
-
-// As `line 3, column 2 (holder): not a number`.
-fn say_fault(stderr: &impl Print, converted: Converted) {
-    let line = converted.line;
-    let column = converted.column;
-    let fault = converted.fault;
-    say(stderr, b"line ");
-    say_number(stderr, line);
-    say(stderr, b", column ");
-    say_number(stderr, column);
-    if line == 1 {
-        say_size(stderr, column);
-        say_reason(stderr, fault, HOLDERS < column);
-        return;
-    }
-    say_field(stderr, column);
-    if (fault == faults::NOT_NUMBER) & (column == KIND) {
-        say(stderr, b": not a kind\n");
-        return;
-    }
-    say_reason(stderr, fault, KW < column);
-}
-
-fn say_number(stderr: &impl Print, number: usize) {
-    let _ = stderr.print(number);
-}
-
-// A column of the first line.
-fn say_size(stderr: &impl Print, column: usize) {
-    if column == INTERTIES {
-        say(stderr, b" (interties)");
-    }
-    if column == HOLDERS {
-        say(stderr, b" (holders)");
-    }
-}
-
-// A column of a record.
-fn say_field(stderr: &impl Print, column: usize) {
-    match column {
-        KIND => say(stderr, b" (kind)"),
-        HOLDER => say(stderr, b" (holder)"),
-        INTERTIE => say(stderr, b" (intertie)"),
-        RANK => say(stderr, b" (rank)"),
-        YEARS => say(stderr, b" (years)"),
-        KW => say(stderr, b" (kw)"),
-        _ => {}
-    }
-}
-
-// What a fault means; of wrong fields, whether a field is past the last column.
-fn say_reason(stderr: &impl Print, fault: u32, past: bool) {
-    if past {
-        say(stderr, b": too many fields\n");
-        return;
-    }
-    match fault {
-        faults::NOT_NUMBER => say(stderr, b": not a number\n"),
-        faults::TOO_LARGE => say(stderr, b": too large\n"),
-        faults::WRONG_FIELDS => say(stderr, b": missing\n"),
-        _ => say(stderr, b": over 1,024 records\n"),
     }
 }
 
@@ -163,28 +75,24 @@ fn print_argument<R: Env + Files + Print>(rt: &R, stderr: &impl Print) {
 // Prints the sheet of a file.
 fn print_file<R: Files + Print>(rt: &R, stderr: &impl Print, name: &[u8]) {
     let mut sheet = [0u8; SHEET_ROOM];
-    let read = input::read_file(rt, name, &mut sheet);
-    if let Some(error) = read.error {
-        fail(stderr, name, error);
-        return;
+    match input::read_file(rt, name, &mut sheet) {
+        Ok(count) if SHEET_ROOM <= count => {
+            say(stderr, name);
+            say(stderr, b": longer than a sheet\n");
+        }
+        Ok(count) => print_sheet(rt, stderr, name, &sheet[..count]),
+        Err(failed) => fail(stderr, name, failed.error),
     }
-    let count = read.count;
-    if SHEET_ROOM <= count {
-        say(stderr, name);
-        say(stderr, b": longer than a sheet\n");
-        return;
-    }
-    print_sheet(rt, stderr, name, &sheet[..count]);
 }
 
 // Prints the text of a sheet.
 fn print_sheet(stdout: &impl Print, stderr: &impl Print, name: &[u8], sheet: &[u8]) {
     let mut text = [0u8; TABLE_BYTES];
-    let count = sheet_table::to_table(sheet, &mut text);
-    if count == 0 {
-        say(stderr, name);
-        say(stderr, b": not a sheet, refused with number 1\n");
-        return;
+    match sheet_table::to_table(sheet, &mut text) {
+        Some(count) => write_out(stdout, stderr, &text[..count]),
+        None => {
+            say(stderr, name);
+            say(stderr, b": not a sheet, refused with number 1\n");
+        }
     }
-    write_out(stdout, stderr, &text[..count]);
 }

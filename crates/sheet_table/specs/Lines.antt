@@ -47,7 +47,7 @@ with_entry entry (Ok entries) = Ok (entry ∷ entries)
 with_entry entry (Err unreadable) = Err unreadable
 
 -- the records of a line and of those after it, which are `rest` past a line that says nothing and `more` past a record
-abbrev pub past_line : Result (Option Entry) Unreadable → Result (List Entry) Unreadable → Result (List Entry) Unreadable → Result (List Entry) Unreadable
+abbrev pub past_line : Result (Option Entry) Unreadable → (rest more : Result (List Entry) Unreadable) → Result (List Entry) Unreadable
 past_line (Ok None) rest more = rest
 past_line (Ok (Some entry)) rest more = with_entry entry more
 past_line (Err unreadable) rest more = Err unreadable

@@ -1,61 +1,65 @@
-// Lines on standard error, one for what kept a year from being run.
+// What kept a year from being run and printed, and the line of it on standard error.
 use super::{JOURNAL, NEXT_SHEET, SHEET, files};
-use input::say;
-use journal::faults::{BAD_NUMBERS, NOT_A_CALL, OVER_32_BITS};
+use input::{fail, say};
+use journal::Unreadable;
+use std::io::Error;
 use std::rt::Env;
 
-// How the program is called.
-pub(super) fn usage(stderr: &impl Print) {
-    say(stderr, b"usage: year SHEET JOURNAL [NEXT-SHEET]\n");
+#[derive(Drop)]
+pub(super) enum Failure {
+    // Too few names, or too many.
+    Usage,
+    // An argument that gives no name.
+    Name(Error),
+    // The file of an argument can't be read, or written.
+    File(usize, Error),
+    // The file of the sheet is longer than any sheet.
+    TooLongSheet,
+    // The journal is longer than there is room for.
+    TooLongJournal,
+    // A line of the journal.
+    Journal(Unreadable),
+    // The sheet is refused, which standard output says.
+    Refused,
+    // Words that are no list of calls, as a journal's never are.
+    NotRun,
+    // Standard output can't be written.
+    Output(Error),
+    // Next year's sheet could not be made: the number of the refusal.
+    NotCarried(u32),
 }
 
-// The file of the sheet is longer than any sheet.
-pub(super) fn too_long_sheet(env: &impl Env, stderr: &impl Print) {
-    files::print_name(env, stderr, SHEET);
-    say(
-        stderr,
-        b": longer than a sheet, which has at most 8,204 bytes\n",
-    );
-}
-
-// The journal is longer than there is room for.
-pub(super) fn too_long_journal(env: &impl Env, stderr: &impl Print) {
-    files::print_name(env, stderr, JOURNAL);
-    say(stderr, b": longer than 1,048,576 bytes\n");
-}
-
-// A line of the journal, counted from 1.
-pub(super) fn journal_line(env: &impl Env, stderr: &impl Print, line: usize, fault: u32) {
-    files::print_name(env, stderr, JOURNAL);
-    say(stderr, b": line ");
-    say_number(stderr, line as u64);
-    why(stderr, fault);
-}
-
-// What is wrong with a line of the journal.
-fn why(stderr: &impl Print, fault: u32) {
-    if fault == NOT_A_CALL {
-        say(stderr, b": not a call\n");
-    } else if fault == BAD_NUMBERS {
-        say(
-            stderr,
-            b": a number is missing, is one too many or can't be read\n",
-        );
-    } else if fault == OVER_32_BITS {
-        say(stderr, b": a number over 32 bits\n");
-    } else {
-        say(stderr, b": more than 16,384 calls\n");
+impl Failure {
+    // Says it on standard error, in a line.
+    pub(super) fn report(self, env: &impl Env, stderr: &impl Print) {
+        match self {
+            Failure::Usage => say(stderr, b"usage: year SHEET JOURNAL [NEXT-SHEET]\n"),
+            Failure::Name(error) => fail(stderr, b"a file's name", error),
+            Failure::File(argument, error) => {
+                files::print_name(env, stderr, argument);
+                fail(stderr, b"", error);
+            }
+            Failure::TooLongSheet => {
+                files::print_name(env, stderr, SHEET);
+                say(
+                    stderr,
+                    b": longer than a sheet, which has at most 8,204 bytes\n",
+                );
+            }
+            Failure::TooLongJournal => {
+                files::print_name(env, stderr, JOURNAL);
+                say(stderr, b": longer than 1,048,576 bytes\n");
+            }
+            Failure::Journal(unreadable) => {
+                files::print_name(env, stderr, JOURNAL);
+                let _ = println!(stderr; ": {unreadable}");
+            }
+            Failure::NotCarried(refusal) => {
+                files::print_name(env, stderr, NEXT_SHEET);
+                let _ = println!(stderr; ": not written, carry is refused with number {refusal}");
+            }
+            Failure::Output(error) => fail(stderr, b"standard output", error),
+            Failure::Refused | Failure::NotRun => {}
+        }
     }
-}
-
-// Next year's sheet could not be made.
-pub(super) fn not_carried(env: &impl Env, stderr: &impl Print, refusal: u32) {
-    files::print_name(env, stderr, NEXT_SHEET);
-    say(stderr, b": not written, carry is refused with number ");
-    say_number(stderr, refusal as u64);
-    say(stderr, b"\n");
-}
-
-fn say_number(stderr: &impl Print, number: u64) {
-    let _ = stderr.print(number);
 }

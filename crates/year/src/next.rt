@@ -4,9 +4,9 @@ ghost use Rattle.base.specs.Choice.{pick};
 ghost use Rattle.base.specs.Limits.{sheet_header_bytes, record_bytes};
 ghost use Rattle.sheet_records.specs.Sheet.{count};
 
-use super::{NEXT_SHEET, faults};
+use super::NEXT_SHEET;
+use super::faults::Failure;
 use base::limits::{MOST_SHEET_BYTES, RECORD_BYTES, SHEET_HEADER_BYTES, STATE_WORDS};
-use input::fail;
 use sheet_records::words;
 use std::fs;
 use std::fs::OpenFile;
@@ -19,17 +19,15 @@ const INVALID: i32 = 22;
 // Carries the year and writes next year's sheet. A refusal touches no file.
 pub(super) fn write_next<R: Env + Files>(
     rt: &R,
-    stderr: &impl Print,
     sheet: &[u8],
     state: &[u32; STATE_WORDS],
-) {
+) -> Result<(), Failure> {
     let mut next = [0u8; MOST_SHEET_BYTES];
     if let Err(refusal) = carrying::carry(sheet, state, &mut next) {
-        faults::not_carried(rt, stderr, refusal.number());
-        return;
+        return Err(Failure::NotCarried(refusal.number()));
     }
     let count = io::count(sheet_length(&next) as isize, &next);
-    write_argument(rt, stderr, &next[..count]);
+    write_argument(rt, &next[..count])
 }
 
 // The length of a sheet, 12 + 8·K.
@@ -41,18 +39,13 @@ fn sheet_length(sheet: &[u8]) -> usize
 }
 
 // Writes next year's sheet to the file that the third argument names.
-fn write_argument<R: Env + Files>(rt: &R, stderr: &impl Print, sheet: &[u8]) {
+fn write_argument<R: Env + Files>(rt: &R, sheet: &[u8]) -> Result<(), Failure> {
     let mut room = io::buffer();
     match input::argument(rt, NEXT_SHEET, &mut room) {
-        Ok(name) => write_named(rt, stderr, name, sheet),
-        Err(error) => fail(stderr, b"a file's name", error),
-    }
-}
-
-// Writes the file of a name. Where that fails, standard error says why.
-fn write_named(files: &impl Files, stderr: &impl Print, name: &[u8], sheet: &[u8]) {
-    if let Err(error) = write_file(files, name, sheet) {
-        fail(stderr, name, error);
+        Ok(name) => {
+            write_file(rt, name, sheet).map_err(|error| Failure::File(NEXT_SHEET, error))
+        }
+        Err(error) => Err(Failure::Name(error)),
     }
 }
 
