@@ -84,7 +84,8 @@ fn some_out_of_range(claims: &[u64], weights: &[u64]) -> bool
         .all(|(claim, weight)| in_range(*claim, *weight))
 }
 
-// Refusal 9: whether the pool, a claim or a weight is out of its range. Most lists are told by their bits alone.
+// Refusal 9: whether the pool, a claim or a weight is out of its range. Most lists are told by their bits alone. (Claims and
+// weights stay two lists, as C lends them: what is known of both differs from worker to worker, and stands in its record.)
 fn unfit_numbers(pool: u64, claims: &[u64], weights: &[u64]) -> bool
     requires { length weights.now ≡ length claims.now }
     ensures { result ≡ unfit_numbers pool claims.now weights.now }

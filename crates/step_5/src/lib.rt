@@ -12,7 +12,8 @@ ghost use Rattle.step_5.specs.Workers.Fit.{Marks, Addends, Factors, Quota};
 
 use base::limits::{MOST_HELD_KW, MOST_HOLDERS, MOST_LOAD_SHARE};
 
-// The mark of a holder that may yet get a share.
+// The mark of a holder that may yet get a share. (Marks are numbers and no enum: a round adds what it excludes to the mark
+// and to their count, without a branch.)
 const ELIGIBLE: u8 = 0;
 
 // And of one that gets none.
@@ -156,7 +157,8 @@ impl Holders<'_> {
 
 // Writes the Step 5 share of each holder, who holds `held` kW by Steps 3 and 4, into the first places of
 // `shares`. Answers false and writes nothing where the lists are of unlike length or over 32, `shares`
-// is shorter, T or a holder's kW is above 2,880,000,000 or a load share above 100,000,000.
+// is shorter, T or a holder's kW is above 2,880,000,000 or a load share above 100,000,000. (A bool, since an error of one
+// kind would say no more.)
 pub fn step_5_shares(total_kw: u64, held: &[u64], loads: &[u64], shares: &mut [u64]) -> bool
     ensures { let made = step5 total_kw held.now loads.now shares.old in
         (result ≡ made.fit) × (shares.new ≡ made.output) }
