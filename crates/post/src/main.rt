@@ -4,6 +4,7 @@
 
 use base::limits::MOST_SHEET_BYTES;
 use input::say;
+use std::io;
 
 // Room for the longest sheet and for one byte more, by which a longer input is told from it, and is refused.
 const SHEET_ROOM: usize = MOST_SHEET_BYTES + 1;
@@ -12,19 +13,17 @@ const SHEET_ROOM: usize = MOST_SHEET_BYTES + 1;
 // be read or printed, standard error says so.
 fn main(rt: HostRuntime) {
     let mut sheet = [0u8; SHEET_ROOM];
-    let read = input::read_whole(&mut rt.stdin(), &mut sheet);
-    if !read.whole {
+    let Ok(count) = input::read_whole(&mut rt.stdin(), &mut sheet) else {
         say(&rt.stderr(), b"standard input: can't be read\n");
         return;
-    }
-    let count = read.count;
-    if !print_posting(&rt.stdout(), &sheet[..count]) {
+    };
+    if print_posting(&rt.stdout(), &sheet[..count]).is_err() {
         say(&rt.stderr(), b"standard output: can't be written\n");
     }
 }
 
-// Answers whether the posting was written.
-fn print_posting(stdout: &impl Print, sheet: &[u8]) -> bool {
+// Prints the posting of a sheet.
+fn print_posting(stdout: &impl Print, sheet: &[u8]) -> io::Result<()> {
     let text = posting_text::posting_text(sheet);
-    stdout.write_all(text.as_slice()).is_ok()
+    stdout.write_all(text.as_slice())
 }
