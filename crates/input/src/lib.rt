@@ -31,7 +31,7 @@ pub struct ReadError {
 
 // Reads a file into the start of a buffer, to its end or as much as there is room for, and answers how many bytes that
 // is. The bytes that were read, also before a read that fails, are those that the file began with, and no other is
-// taken from it.
+// taken from it. (A while: each read says where the next begins.)
 pub fn read_whole<R: std::io::Read>(file: &mut R, buffer: &mut [u8]) -> Result<usize, ReadError>
     ensures within { IsPrefixLen (read_count result) buffer.new }
     ensures bytes { Consumes (R.remaining file.old) (R.remaining file.new) (take (read_count result) buffer.new) }

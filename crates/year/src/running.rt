@@ -14,7 +14,7 @@ use base::limits::GRANTS_WORDS;
 use base::numbers::shorter;
 use year_text::{MOST_ANSWERS, TEXT_BYTES};
 
-// Runs the first `count` calls and prints what they answer.
+// Runs the first `count` calls and prints what they answer. (A while: each stretch says where the next begins.)
 pub(super) fn run_all(
     stdout: &impl Print,
     calls: &[u32],
