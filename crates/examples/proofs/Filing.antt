@@ -32,7 +32,7 @@ use Rattle.text.specs.Ascii.{ascii}
 use Rattle.text.specs.Decimal.{decimal_to}
 use Rattle.text.specs.Lines.{figure, figures_of, line_of, each}
 use Rattle.posting_text.specs.Text.{text_of}
-use Rattle.posting_text.specs.Workers.Columns.{lines_text}
+use Rattle.posting_text.specs.Workers.Columns.{intertie_by_rows, holder_by_rows, lines_text}
 use Rattle.posting_text.proofs.PostedLaws.{text-by-rows}
 use Rattle.examples.proofs.Printed.{Printed, printed}
 
@@ -114,7 +114,7 @@ printed5 =
     ++ ascii "H 3 2 10000 100000 0\n"
 
 text-5 : text_of sheet5 ≡ printed5
-unfolding bytes_of sheet_of sheet5 word_at fill_row tab decimal_to figure figures_of line_of each lines_text
+unfolding bytes_of sheet_of sheet5 word_at fill_row tab decimal_to figure figures_of line_of each intertie_by_rows holder_by_rows lines_text
 text-5 = text-by-rows sheet5 says-5.stands ∙ rw (posted-5 (replicate 480 0)) refl
 
 -- a holder's Step 7 total is what it holds and its Step 5 share
