@@ -1,8 +1,7 @@
 -- The kinds of call as a type, and their numbers.
-use Rattle.std.specs.Prelude.{◌≡◌, ℕ, Result, MatchResult, true, not, ◌&&◌, leb}
+use Rattle.std.specs.Prelude.{ℕ}
 use Rattle.base.specs.declared.encoding.CallKind.{CallKind}
 use Rattle.base.specs.declared.encoding.CallKind.TheVariants.{Trade, Request, Close, Take, Move, Lock}
-use Rattle.base.specs.declared.encoding.NoCall.{NoCall}
 use Rattle.base.specs.Encoding.{trade_call, request_call, close_call, take_call, move_call, lock_call}
 
 -- the number of a kind
@@ -13,8 +12,3 @@ number_of Close = close_call
 number_of Take = take_call
 number_of Move = move_call
 number_of Lock = lock_call
-
--- the outcome is the kind of a number, or says that it has none
-abbrev pub Decodes : ℕ → Result CallKind NoCall → Type 0
-Decodes number outcome =
-    MatchResult outcome (λ kind. number_of kind ≡ number) (λ _. not (leb trade_call number && leb number lock_call) ≡ true)

@@ -1,8 +1,7 @@
 -- The kinds of record as a type, and their numbers.
-use Rattle.std.specs.Prelude.{◌≡◌, ℕ, Result, MatchResult, true, not, ◌&&◌, leb}
+use Rattle.std.specs.Prelude.{ℕ}
 use Rattle.base.specs.declared.kinds.Kind.{Kind}
 use Rattle.base.specs.declared.kinds.Kind.TheVariants.{Limit, OutsideRight, LoadShare, ExistingContract, PreRaCommitment, NewUseCommitment}
-use Rattle.base.specs.declared.kinds.NoKind.{NoKind}
 use Rattle.base.specs.Kinds.{limit_kind, outside_right_kind, load_share_kind, existing_contract_kind, pre_ra_kind, new_use_kind}
 
 -- the number of a kind
@@ -13,8 +12,3 @@ number_of LoadShare = load_share_kind
 number_of ExistingContract = existing_contract_kind
 number_of PreRaCommitment = pre_ra_kind
 number_of NewUseCommitment = new_use_kind
-
--- the outcome is the kind of a number, or says that it has none
-abbrev pub Decodes : ℕ → Result Kind NoKind → Type 0
-Decodes number outcome =
-    MatchResult outcome (λ kind. number_of kind ≡ number) (λ _. not (leb limit_kind number && leb number new_use_kind) ≡ true)

@@ -3,6 +3,7 @@ pub mod Sums
 pub mod Words
 pub mod Answers
 pub mod Limits
+pub mod Numbered
 pub mod Refusals
 pub mod Refused
 pub mod Kinds

@@ -1,31 +1,15 @@
 // A call of the year and its answer as words of a list: how many they are, and the kinds of call. Each is named here once;
-// specs/Encoding has the same.
+// specs/Encoding has the same numbers.
 ghost use Rattle.std.specs.Prelude.{◌≡◌};
-ghost use Rattle.base.specs.CallKind.{number_of, Decodes};
+ghost use Rattle.base.specs.CallKind.{number_of};
+ghost use Rattle.base.specs.Encoding.{trade_call, lock_call};
+ghost use Rattle.base.specs.Numbered.{Decodes};
 
 // The words of a call: its kind, three numbers, and the low and the high word of its kW.
 pub const CALL_WORDS: usize = 6;
 
 // The words of its answer: refusal, kW, passes.
 pub const ANSWER_WORDS: usize = 3;
-
-// Trade: seller, buyer.
-pub const TRADE: u32 = 1;
-
-// Request: holder, intertie.
-pub const REQUEST: u32 = 2;
-
-// Close: no number, no kW.
-pub const CLOSE: u32 = 3;
-
-// Take: holder, intertie, day.
-pub const TAKE: u32 = 4;
-
-// Move: giver, taker, intertie.
-pub const MOVE: u32 = 5;
-
-// Lock: holder, intertie, term.
-pub const LOCK: u32 = 6;
 
 // The kinds of call by their numbers.
 #[derive(Clone, Copy, Debug, PartialEq, Eq)]
@@ -60,7 +44,7 @@ pub struct NoCall;
 impl TryFrom<u32> for CallKind {
     type Error = NoCall;
 
-    ghost try_from_gives = { Decodes };
+    ghost try_from_gives = { Decodes number_of trade_call lock_call };
 
     fn try_from(number: u32) -> Result<CallKind, NoCall> {
         match number {

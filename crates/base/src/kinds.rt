@@ -1,26 +1,10 @@
-// The kinds of record, each named here once; specs/Kinds has the same.
+// The kinds of record, each named here once; specs/Kinds has the same numbers.
 ghost use Rattle.std.specs.Prelude.{◌≡◌};
-ghost use Rattle.base.specs.Kind.{number_of, Decodes};
+ghost use Rattle.base.specs.Kind.{number_of};
+ghost use Rattle.base.specs.Kinds.{limit_kind, new_use_kind};
+ghost use Rattle.base.specs.Numbered.{Decodes};
 
-// Limit (Maximum Import Capability) of an intertie.
-pub const LIMIT: u32 = 1;
-
-// Outside right on an intertie.
-pub const OUTSIDE_RIGHT: u32 = 2;
-
-// Load share of a holder.
-pub const LOAD_SHARE: u32 = 3;
-
-// Existing contract: holder, intertie, years.
-pub const EXISTING_CONTRACT: u32 = 4;
-
-// Pre-RA commitment: holder, intertie, years.
-pub const PRE_RA_COMMITMENT: u32 = 5;
-
-// New Use commitment: holder, intertie, years, rank.
-pub const NEW_USE_COMMITMENT: u32 = 6;
-
-// The kinds by their numbers.
+// The kinds of record by their numbers.
 #[derive(Clone, Copy, Debug, PartialEq, Eq)]
 pub enum Kind {
     // Limit (Maximum Import Capability) of an intertie.
@@ -53,7 +37,7 @@ pub struct NoKind;
 impl TryFrom<u32> for Kind {
     type Error = NoKind;
 
-    ghost try_from_gives = { Decodes };
+    ghost try_from_gives = { Decodes number_of limit_kind new_use_kind };
 
     fn try_from(number: u32) -> Result<Kind, NoKind> {
         match number {

@@ -1,11 +1,10 @@
 // What every crate stands on: each number and name of the rules in its one home (limits, refusals, kinds of record, stages,
-// words of a call), the answer of a call, numbers and lists of them, and choices and sums for the specifications.
+// words of a call), the answer of a call, lists of numbers, and choices and sums for the specifications.
 #![tactic(auto)]
 
 pub mod encoding;
 pub mod kinds;
 pub mod limits;
-pub mod numbers;
 pub mod refusals;
 pub mod stages;
 pub mod vectors;
@@ -16,7 +15,8 @@ ghost use Rattle.base.specs.Refused.{answer_of};
 
 use refusals::Refusal;
 
-// The answer of a call: the number of a refusal, or 0; the kilowatts; the passes of share-outs.
+// The answer of a call: the number of a refusal, or 0; the kilowatts; the passes of share-outs. (C reads these three words; a
+// call in Rattle answers a Result.)
 #[repr(C)]
 #[derive(Clone, Copy)]
 pub struct Answer {

@@ -1,50 +1,7 @@
-// The numbers of the refusals, each named here once; specs/Refusals has the same. A call is refused with the lowest that
-// applies, and 0 is no refusal.
-
+// The refusals, each named here once; specs/Refusals has the same numbers. A call is refused with the lowest that applies, and
+// 0 is no refusal.
 ghost use Rattle.std.specs.Prelude.{◌≡◌};
 ghost use Rattle.base.specs.Refused.{number_of};
-
-// A sheet under 12 bytes, K over 1,024, or a length that is not 12 + 8·K.
-pub const SHEET_LENGTH: u32 = 1;
-
-// I or H out of range.
-pub const SIZES: u32 = 2;
-
-// The records break a rule of the sheet.
-pub const RECORDS: u32 = 3;
-
-// Outside rights and existing contracts above a limit.
-pub const ABOVE_LIMIT: u32 = 4;
-
-// Lent memory too short, or lists of a share-out that do not match.
-pub const ROOM: u32 = 5;
-
-// The state is not orderly.
-pub const NOT_ORDERLY: u32 = 6;
-
-// The call is not of this stage.
-pub const STAGE: u32 = 7;
-
-// No such holder or intertie, or both parties one.
-pub const NO_SUCH: u32 = 8;
-
-// KW, term, or a number of a share-out out of range.
-pub const RANGE: u32 = 9;
-
-// More than unplaced, placed, or placed above locked.
-pub const TOO_MUCH: u32 = 10;
-
-// A day before the last taking's, or a third taking in the week.
-pub const DAY: u32 = 11;
-
-// A taking with nothing unassigned.
-pub const NONE_LEFT: u32 = 12;
-
-// The pair has a lock, or three quarters are passed.
-pub const LOCK: u32 = 13;
-
-// Carry: other sizes than the state's, too many records, a rank over 255, or too short an output.
-pub const CARRY: u32 = 14;
 
 // The refusals by their numbers.
 #[derive(Clone, Copy, Debug, PartialEq, Eq)]

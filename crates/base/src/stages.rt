@@ -1,18 +1,8 @@
-// The stages of the year, each named here once; specs/Stages has the same.
+// The stages of the year, each named here once; specs/Stages has the same numbers.
 ghost use Rattle.std.specs.Prelude.{◌≡◌};
-ghost use Rattle.base.specs.Stage.{number_of, Decodes};
-
-// Trading (Step 8).
-pub const TRADING: u32 = 1;
-
-// First requests (Step 9).
-pub const FIRST_REQUESTS: u32 = 2;
-
-// Second requests (Step 11).
-pub const SECOND_REQUESTS: u32 = 3;
-
-// Open (Step 13).
-pub const OPEN: u32 = 4;
+ghost use Rattle.base.specs.Stage.{number_of};
+ghost use Rattle.base.specs.Stages.{trading_stage, open_stage};
+ghost use Rattle.base.specs.Numbered.{Decodes};
 
 // The stages by their numbers.
 #[derive(Clone, Copy, Debug, PartialEq, Eq)]
@@ -43,7 +33,7 @@ pub struct NoStage;
 impl TryFrom<u32> for Stage {
     type Error = NoStage;
 
-    ghost try_from_gives = { Decodes };
+    ghost try_from_gives = { Decodes number_of trading_stage open_stage };
 
     fn try_from(number: u32) -> Result<Stage, NoStage> {
         match number {
