@@ -9,8 +9,9 @@ ghost use Rattle.sheet_records.specs.Refusal.{bad_length};
 ghost use Rattle.sheet_reading.specs.Tables.{slot, slot_of, slots, count_table, kw_table, intertie_table};
 ghost use Rattle.sheet_reading.specs.Workers.Adding.{add, SlotsOf};
 
+use base::kinds::Kind;
+use base::limits;
 use base::limits::MOST_RECORDS;
-use base::{kinds, limits};
 use sheet_keys::key;
 use sheet_records::reader;
 
@@ -75,32 +76,32 @@ fn slot(kind: u32, holder: u32, intertie: u32, rank: u32) -> u32
     ensures { result ≡ slot kind holder intertie rank }
 {
     let new_use = either(
-        kind == kinds::NEW_USE_COMMITMENT,
+        kind == Kind::NewUseCommitment as u32,
         NEW_USE as u32 + HOLDER_RANKS as u32 * holder + rank,
         OTHER,
     );
     let pre_ra = either(
-        kind == kinds::PRE_RA_COMMITMENT,
+        kind == Kind::PreRaCommitment as u32,
         PRE_RA as u32 + HOLDER_INTERTIES as u32 * holder + intertie,
         new_use,
     );
     let existing = either(
-        kind == kinds::EXISTING_CONTRACT,
+        kind == Kind::ExistingContract as u32,
         EXISTING as u32 + HOLDER_INTERTIES as u32 * holder + intertie,
         pre_ra,
     );
     let by_holder = either(MOST_HOLDERS <= holder, OTHER, existing);
     let load_share = either(
-        kind == kinds::LOAD_SHARE,
+        kind == Kind::LoadShare as u32,
         LOAD_SHARES as u32 + holder,
         by_holder,
     );
     let outside = either(
-        kind == kinds::OUTSIDE_RIGHT,
+        kind == Kind::OutsideRight as u32,
         OUTSIDE as u32 + intertie,
         load_share,
     );
-    either(kind == kinds::LIMIT, intertie, outside)
+    either(kind == Kind::Limit as u32, intertie, outside)
 }
 
 // The slot of a key.
