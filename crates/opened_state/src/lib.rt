@@ -13,7 +13,7 @@ ghost use Rattle.opened_state.specs.Write.{stage_written, rows_cleared, pairs_cl
 ghost use Rattle.opened_state.specs.Workers.Sizes.{Sizes};
 
 use base::limits::{MOST_HOLDERS, MOST_INTERTIES, MOST_PAIRS, STATE_WORDS};
-use base::stages;
+use base::stages::Stage;
 use sheet_reading::tables;
 use sheet_reading::tables::SLOTS;
 use state::layout;
@@ -125,7 +125,7 @@ fn write_stage(
     ensures { state.new ≡ stage_written interties holders
         unassigned.now unplaced.now state.old }
 {
-    state::store(state, layout::YEAR, layout::STAGE, stages::TRADING);
+    state::store(state, layout::YEAR, layout::STAGE, Stage::Trading as u32);
     state::store(state, layout::YEAR, layout::LAST_DAY, 0);
     state_rows::store_row(state, layout::UNASSIGNED as usize, interties, unassigned);
     state_rows::store_row(state, layout::UNPLACED as usize, holders, unplaced);

@@ -5,19 +5,21 @@ mod figures;
 mod year;
 
 ghost use Rattle.std.specs.Prelude.{◌≡◌};
+ghost use Rattle.base.specs.Refused.{answer_of};
 ghost use Rattle.opening.specs.Open.{opened, quantities_found};
 
+use base::Granted;
 use base::limits::{MOST_HOLDERS, STATE_WORDS};
-use base::{Answer, refusals};
+use base::refusals::Refusal;
 use sheet_reading::refusal;
 use sheet_reading::tables::Tables;
 use sheet_records::words;
 
 // Opens the year: reads the sheet, refuses it with its number or carries out Steps 2 to 7 into the
 // state. A state of fewer than 16,000 words is refused with 5. The answer is T.
-pub fn open(sheet: &[u8], state: &mut [u32]) -> Answer
+pub fn open(sheet: &[u8], state: &mut [u32]) -> Result<Granted, Refusal>
     ensures { let o = opened sheet.now state.old in
-        (result ≡ o.answer) × (state.new ≡ o.state) }
+        (answer_of result ≡ o.answer) × (state.new ≡ o.state) }
 {
     let mut quantities = [0u64; MOST_HOLDERS];
     open_with_quantities(sheet, state, &mut quantities)
@@ -29,17 +31,15 @@ pub fn open_with_quantities(
     sheet: &[u8],
     state: &mut [u32],
     quantities: &mut [u64; MOST_HOLDERS],
-) -> Answer
+) -> Result<Granted, Refusal>
     ensures { let s = state.old in let o = opened sheet.now s in
-        (result ≡ o.answer) × (state.new ≡ o.state)
+        (answer_of result ≡ o.answer) × (state.new ≡ o.state)
         × (quantities.new ≡ quantities_found sheet.now s quantities.old) }
 {
     let mut tables = Tables::empty();
-    if let Err(refusal) = refusal::read_sheet(sheet, &mut tables) {
-        return Answer::refused(refusal.number());
-    }
+    refusal::read_sheet(sheet, &mut tables)?;
     if state.len() < STATE_WORDS {
-        return Answer::refused(refusals::ROOM);
+        return Err(Refusal::Room);
     }
     let interties = words::intertie_count(sheet) as usize;
     let holders = words::holder_count(sheet) as usize;
@@ -51,5 +51,8 @@ pub fn open_with_quantities(
         quantities,
         state,
     );
-    Answer::granted(total, 0)
+    Ok(Granted {
+        kw: total,
+        passes: 0,
+    })
 }

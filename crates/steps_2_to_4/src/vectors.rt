@@ -7,7 +7,6 @@ ghost use Rattle.sheet_reading.specs.Tables.{slots, existing_slot};
 ghost use Rattle.intertie_shares.specs.Pairs.{pair_at};
 
 use base::limits::MOST_INTERTIES;
-use base::numbers::excess;
 use sheet_reading::tables::{EXISTING, HOLDER_INTERTIES};
 
 // Writes over a row what the numbers of a list have above those of another.
@@ -17,7 +16,7 @@ pub(super) fn differences(list: &[u64], other: &[u64], row: &mut [u64])
         ≡ tab (length row.old) (λ (c : ℕ). at list.now c - at other.now c) }
 {
     for c in 0..row.len() {
-        row[c] = excess(list[c], other[c]);
+        row[c] = list[c].saturating_sub(other[c]);
     }
 }
 

@@ -81,7 +81,7 @@ pub extern "C" fn zankurbe_open(sheet: &[u8], state: &mut [u32]) -> Answer
     ensures { let year = opened sheet.now state.old in
         (result ≡ year.answer) × (state.new ≡ year.state) }
 {
-    opening::open(sheet, state)
+    Answer::from(opening::open(sheet, state))
 }
 
 // Posts a sheet: T, and the numbers of its lines in ten rows of 48 (posting::post).

@@ -1,21 +1,28 @@
 -- `open_with_quantities` meets its contract: refused as the sheet is or with 5, or opened (`TableOpening`).
-use Rattle.base.proofs.Prelude.{ℕ, sym, ap, ◌∙◌, arith}
+use Rattle.base.proofs.Prelude.{ℕ, ◌≡◌, sym, ap, ◌∙◌, arith}
 use Rattle.base.specs.Answers.{refused}
-use Rattle.base.specs.Refused.{number_in}
+use Rattle.base.specs.declared.refusals.Refusal.{Refusal}
+use Rattle.base.specs.Refused.{number_in, number_of}
 use Rattle.base.proofs.RefusedLaws.{numbered}
+use Rattle.std.proofs.lemmas.Result.{err_from_is_err_and}
 use mathlib.Core.Logic.{◌≢◌}
 use Rattle.sheet_records.specs.Refusal.{sheet_refusal}
 use Rattle.opening.specs.Open.{Outcome}
 use Rattle.opening.proofs.TableOpening.{open-refused, open-short, found-refused, found-short, read-valid, read_opened}
 use Rattle.opening.proofs.open_with_quantities.Goals as goal
 
-pub returns-in-Err : goal.returns-in-Err
-returns-in-Err c =
+some : (r : Refusal) → number_of r ≡ 0 → ⊥
+some r e = omega (arith, numbered r)
+
+pub returns-in_err-read_sheet : goal.returns-in_err-read_sheet
+returns-in_err-read_sheet c =
     let a = c.args in
-    let number = sym (ap number_in c.in-Err.is) ∙ c.read_sheet.ensures.answer in
-    let ne : sheet_refusal a.sheet.now ≢ 0 = λ e. let some = numbered c.in-Err.refusal in omega arith in
-    let o = open-refused a.sheet.now a.state.now ne in (
-      c.refused.ensures ∙ ap (λ (k : ℕ). refused k) (c.number.ensures ∙ number) ∙ sym (ap (λ (o : Outcome). o.answer) o),
+    let p = err_from_is_err_and c.from_residual.result c.from_residual.ensures.1 in
+    let number = sym (ap number_in c.in_err-read_sheet.was) ∙ c.read_sheet.ensures.answer in
+    let ne : sheet_refusal a.sheet.now ≢ 0 = λ e. some _ (number ∙ e) in
+    let o = open-refused a.sheet.now a.state.now ne in
+    rw (p.1, p.2) (
+      ap (λ (k : ℕ). refused k) number ∙ sym (ap (λ (o : Outcome). o.answer) o),
       sym (ap (λ (o : Outcome). o.state) o),
       sym (found-refused a.sheet.now a.state.now a.quantities.now ne),
     )
@@ -23,18 +30,18 @@ returns-in-Err c =
 pub returns-then-state-lt-STATE_WORDS : goal.returns-then-state-lt-STATE_WORDS
 returns-then-state-lt-STATE_WORDS c =
     let a = c.args in
-    let stands = sym c.read_sheet.ensures.answer ∙ ap number_in c.in_default.is in
+    let stands = sym c.read_sheet.ensures.answer ∙ ap number_in c.in_ok-read_sheet.was in
     let o = open-short a.sheet.now a.state.now stands c.if-state-lt-STATE_WORDS.true in (
-      c.refused-then-state-lt-STATE_WORDS.ensures ∙ sym (ap (λ (o : Outcome). o.answer) o),
+      sym (ap (λ (o : Outcome). o.answer) o),
       sym (ap (λ (o : Outcome). o.state) o),
       sym (found-short a.sheet.now a.state.now a.quantities.now stands c.if-state-lt-STATE_WORDS.true),
     )
 
 pub steps_2_to_7-total-requires : goal.steps_2_to_7-total-requires
 steps_2_to_7-total-requires c =
-    (read-valid _ _ _ _ c.read_sheet.ensures (ap number_in c.in_default.is) _ _ c.intertie_count-interties.ensures c.holder_count-holders.ensures, c.if-state-lt-STATE_WORDS.false)
+    (read-valid _ _ _ _ c.read_sheet.ensures (ap number_in c.in_ok-read_sheet.was) _ _ c.intertie_count-interties.ensures c.holder_count-holders.ensures, c.if-state-lt-STATE_WORDS.false)
 
 pub returns : goal.returns
 returns c =
-    let o = read_opened _ _ _ _ c.read_sheet.ensures (ap number_in c.in_default.is) _ _ c.intertie_count-interties.ensures c.holder_count-holders.ensures c.args.state.now c.args.quantities.now c.if-state-lt-STATE_WORDS.false _ _ _ c.steps_2_to_7-total.ensures in
-    (c.granted.ensures ∙ o.0, o.1, o.2)
+    let o = read_opened _ _ _ _ c.read_sheet.ensures (ap number_in c.in_ok-read_sheet.was) _ _ c.intertie_count-interties.ensures c.holder_count-holders.ensures c.args.state.now c.args.quantities.now c.if-state-lt-STATE_WORDS.false _ _ _ c.steps_2_to_7-total.ensures in
+    o

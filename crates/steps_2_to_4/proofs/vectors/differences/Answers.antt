@@ -8,7 +8,7 @@ loop-c-init c = filling-none _ _
 
 pub loop-c-preserved : goal.loop-c-preserved
 loop-c-preserved c = let a = c.args in
-    filling-next (word a.list.now a.other.now) _ _ _ _ c.loop-c.invariant (omega arith) c.excess.ensures
+    filling-next (word a.list.now a.other.now) _ _ _ _ c.loop-c.invariant (omega arith) c.saturating_sub.ensures
 
 pub returns : goal.returns
 returns c = filling-all _ _ _ _ c.loop-c.invariant (omega (arith, c.loop-c.invariant.size))
