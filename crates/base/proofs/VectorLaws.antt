@@ -1,9 +1,10 @@
 -- A row that is written word by word, a number that is lowered term by term, and lists that are parts of others.
-use Rattle.std.proofs.Common.{◌≡◌, ℕ, ◌+◌, ◌-◌, ◌%◌, ◌^◌, ◌<◌, ◌≤◌, Bool, List, ◌++◌, length, take, drop, set, sym, refl, ap, ◌∙◌, zero-le, le_refl, mod-eq_of_lt, arith, length-set, length-take-le, get_or-drop, get_or-take, get_or-append-add, ext_get_or}
+use Rattle.std.proofs.Common.{◌≡◌, ℕ, zero, suc, ◌+◌, ◌-◌, ◌*◌, ◌%◌, ◌^◌, ◌<◌, ◌≤◌, Bool, List, [], ◌++◌, length, take, drop, set, sym, refl, ap, ◌∙◌, zero-le, le_refl, mod-eq_of_lt, arith, length-set, length-take-le, get_or-drop, get_or-take, get_or-append-add, ext_get_or}
 use native.Mathlib.Nat.{mod-add-mod, sub-zero}
 use native.Mathlib.Decide.{dec_lt}
-use lib.ListN.{get_or-append, get_or-eq_default}
+use lib.ListN.{get_or, get_or-append, get_or-eq_default}
 use borrow.Rule.Slice.PartMut.{mid_of, put_mid, mid_len}
+use Rattle.std.specs.Simd.{first_chunks}
 use Rattle.base.specs.Sums.{sum_to, all_to}
 use Rattle.base.specs.Words.{at, tab, fill}
 use Rattle.base.proofs.SumLaws.{sum_to-zero, sum_to-more, sum_to-same, all_to-same}
@@ -139,3 +140,30 @@ pub off_part : (a e : ℕ) (l row : List ℕ) → e ≡ a + length row →
 off_part a e l row end =
     tab-same (length row) (λ c. at row c - at (mid_of a (e - a) l) c) (λ c. at row c - at l (a + c))
     (λ c h. ap (λ x. at row c - x) (at_mid a (e - a) l c (omega arith)))
+
+-- a table cut into rows of n words each: word c of row h is word n * h + c of the table
+pub at-row : (n k h c : ℕ) (l : List ℕ) → h < k → c < n → at (get_or (first_chunks n k l) h []) c ≡ at l (n * h + c)
+at-row n zero h c l few inside = absurd (omega arith)
+at-row n (suc k) zero c l few inside = get_or-take n l c 0 inside ∙ ap (at l) (omega arith)
+at-row n (suc k) (suc h) c l few inside =
+    at-row n k h c (drop n l) (omega arith) inside
+    ∙ get_or-drop n l (n * h + c) 0
+    ∙ ap (at l) (omega arith)
+
+pub length-rows : (n k : ℕ) (l : List ℕ) → length (first_chunks n k l) ≡ k
+length-rows n zero l = refl
+length-rows n (suc k) l = ap suc (length-rows n k (drop n l))
+
+-- a row off which the first m rows of such a table are taken
+pub off_rows : (n k m : ℕ) (l row : List ℕ) → m ≤ k → length row ≤ n →
+    tab (length row) (λ c. at row c - sum_to (length (take m (first_chunks n k l))) (λ h. at (get_or (take m (first_chunks n k l)) h []) c))
+    ≡ lowered (λ h c. at l (n * h + c)) row m
+off_rows n k m l row few narrow =
+    let rows = first_chunks n k l in
+    let size : length (take m rows) ≡ m = length-take-le m rows (rw (length-rows n k l) few) in
+    tab-same (length row) _ (λ c. at row c - sum_to m (λ h. at l (n * h + c)))
+    (λ c inside.
+    ap (λ (t : ℕ). at row c - sum_to t (λ h. at (get_or (take m rows) h []) c)) size
+    ∙ ap (λ (s : ℕ). at row c - s)
+    (sum_to-same m _ (λ h. at l (n * h + c))
+    (λ h low. ap (λ w. at w c) (get_or-take m rows h [] low) ∙ at-row n k h c l (omega arith) (omega arith))))

@@ -1,5 +1,5 @@
 // Lists of numbers: cleared, tested, added up, taken off one another. A caller lends the very words that are meant.
-ghost use Rattle.std.specs.Prelude.{◌≡◌, ℕ, ◌-◌, ◌%◌, ◌^◌, length, nat_le};
+ghost use Rattle.std.specs.Prelude.{◌≡◌, ℕ, ◌-◌, ◌%◌, ◌^◌, length, nat_le, get_or, []};
 ghost use Rattle.base.specs.Sums.{sum_to, all_to};
 ghost use Rattle.base.specs.Words.{at, tab};
 
@@ -41,5 +41,15 @@ pub fn take_off(list: &[u64], row: &mut [u64])
     let count = list.len().min(row.len());
     for c in 0..count {
         row[c] = row[c].saturating_sub(list[c]);
+    }
+}
+
+// Takes the numbers of each list off those of a row, in turn.
+pub fn take_off_each<const N: usize>(lists: &[[u64; N]], row: &mut [u64])
+    ensures { let lists = lists.now in row.new
+        ≡ tab (length row.old) (λ (c : ℕ). at row.old c - sum_to (length lists) (λ (h : ℕ). at (get_or lists h []) c)) }
+{
+    for list in lists {
+        take_off(list, row);
     }
 }
