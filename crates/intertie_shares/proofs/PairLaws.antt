@@ -1,17 +1,16 @@
 -- Laws of tables of the pairs: what stands at the pairs that were filled, and that the other words stay.
 use Prim.Native.Nat.{ℕ, zero, suc, ◌+◌, ◌≤◌, ◌<◌}
 use mathlib.Core.Path.{◌≡◌, refl, ◌∙◌}
-use mathlib.Core.Logic.{◌≢◌, ◌⊎◌, ⊎_elim}
+use mathlib.Core.Logic.{◌≢◌, ⊎_elim}
 use mathlib.Core.List.{List}
 use native.Mathlib.Nat.{le_step, lt-suc_self, not-suc-le-zero}
 use native.Mathlib.Numerals.{add-one}
 use native.Mathlib.Omega.{arith}
 use lib.ListN.{length, set, length-set}
 use lib.Seq.{get_or-set_same, get_or-set_other}
-use Rattle.base.specs.Words.{at, tab}
+use Rattle.base.specs.Words.{at}
 use Rattle.base.proofs.SumLaws.{below_suc}
-use Rattle.base.proofs.WordLaws.{tab-same}
-use Rattle.intertie_shares.specs.Pairs.{pair_at, column, fill_column, fill_table}
+use Rattle.intertie_shares.specs.Pairs.{pair_at, fill_column, fill_table}
 
 module _ (i : ℕ) (f : ℕ → ℕ) (table : List ℕ) where
   pub fill_column-zero : fill_column i 0 f table ≡ table
@@ -95,22 +94,6 @@ module _ (H : ℕ) (f : ℕ → ℕ → ℕ) (table : List ℕ) where
   at-fill_table-other (suc I) p other =
       at-fill_column-other I (λ h. f h I) (fill_table I H f table) H p (λ h l. other h I l (lt-suc_self I))
       ∙ at-fill_table-other I p (λ h i l m. other h i l (le_step m))
-
-  -- so the pairs of later holders and interties stay
-  pub at-fill_table-later : (I h i : ℕ) → i < 48 → I ≤ 48 → H ≤ h ⊎ I ≤ i → at (fill_table I H f table) (pair_at h i) ≡ at table (pair_at h i)
-  at-fill_table-later I h i low few later =
-      at-fill_table-other I (pair_at h i)
-      (λ k j l m.
-      ⊎_elim (λ (past : H ≤ h). omega arith) (λ (past : I ≤ i). omega arith) later)
-
-  -- and the words past a table of the pairs
-  pub at-fill_table-past : (I p : ℕ) → H ≤ 32 → I ≤ 48 → 1536 ≤ p → at (fill_table I H f table) p ≡ at table p
-  at-fill_table-past I p few low past = at-fill_table-other I p (λ h i l m. omega arith)
-
-  -- the column of an intertie that was filled
-  pub column-fill_table : (I i : ℕ) → i < I → H ≤ 32 → I ≤ 48 → 1536 ≤ length table → column (fill_table I H f table) H i ≡ tab H (λ h. f h i)
-  column-fill_table I i l few low whole =
-      tab-same H (λ h. at (fill_table I H f table) (pair_at h i)) (λ h. f h i) (λ h k. at-fill_table I h i k l few low whole)
 
 -- the same values fill alike
 pub fill_table-same : (I H : ℕ) (f g : ℕ → ℕ → ℕ) (table : List ℕ) → ((h i : ℕ) → h < H → i < I → f h i ≡ g h i) →

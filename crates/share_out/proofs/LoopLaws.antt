@@ -1,7 +1,7 @@
 -- A pass as the code makes it: parts by weight holder after holder, then served in turn if all those are 0; and pass after pass.
 use Prim.Native.Nat.{ℕ, suc, ◌+◌, ◌-◌, ◌*◌, ◌/◌, ◌≤◌, ◌<◌, min, zero-le}
 use mathlib.Core.Path.{◌≡◌, refl, sym, ap, ◌∙◌}
-use mathlib.Core.Bool.{true, ◌&&◌}
+use mathlib.Core.Bool.{◌&&◌}
 use mathlib.Core.List.{List}
 use mathlib.Core.Logic.{⊎_elim}
 use native.Mathlib.Nat.{le_refl, le_trans, eq-zero-or-pos, div-zero, pos_of_ne-zero, sub-zero}
@@ -9,7 +9,7 @@ use native.Mathlib.Omega.{arith}
 use lib.ListN.{length, set, length-set}
 use lib.Seq.{ext_get_or}
 use lib.Dec.{ltb}
-use borrow.Author.Tests.{eq-eqb, ne_eqb, lt-ltb, le-ltb}
+use borrow.Author.Tests.{eq-eqb, ne_eqb}
 use Rattle.base.specs.Choice.{pick}
 use Rattle.base.specs.Sums.{sum_to}
 use Rattle.base.specs.Words.{at, fill, tab}
@@ -18,8 +18,8 @@ use Rattle.base.proofs.WordLaws.{fill-zero, fill-turn, fill-whole, at_fill, at-f
 use Rattle.share_out.specs.Turn.{in_turn}
 use Rattle.share_out.specs.Pass.{unmet, is_open, open_weight, open_weights, by_weight, one_each, unweighted, pass_kw, pass_total, pass_grants}
 use Rattle.share_out.specs.Rule.{run_passes, claimed, shared}
-use Rattle.share_out.specs.Workers.Fit.{AtMost, Weighed, Rated, Serving, Raised, Completed, Ready, none, wants}
-use Rattle.share_out.proofs.PassLaws.{open-weight-part, open-weight-after, open_is, brings-unmet, open_weight-most, by_weight-is, by_weight-within, pass_total-within, pass_total-pos, pass_total-last}
+use Rattle.share_out.specs.Workers.Fit.{AtMost, Weighed, Rated, Serving, Raised, Completed, Ready, none, single}
+use Rattle.share_out.proofs.PassLaws.{open-weight-part, open-weight-after, open_is, open_weight-most, by_weight-is, by_weight-within, pass_total-within, pass_total-pos, pass_total-last}
 use Rattle.share_out.proofs.RunLaws.{Running, at_none, running-first, running-next, run-empty, run-pass}
 use Rattle.share_out.proofs.Promise.{shared-passes}
 
@@ -209,12 +209,12 @@ module _ (claims weights : List ℕ) where
 
   -- serving open holders singly by the weights they bring is the leftover rule
   singly-is : (R all : ℕ) (g brought : List ℕ) (i : ℕ) → i < length claims → Weighed all claims weights g brought →
-      one_each claims weights R g i ≡ in_turn R (wants true claims brought g) i
+      one_each claims weights R g i ≡ in_turn R (single brought) i
   unfolding one_each
   singly-is R all g brought i l a =
       let one : (j : ℕ) → j < length claims → pick {A = ℕ} (is_open claims weights g j) 1 0 ≡ pick (ltb 0 (at brought j)) 1 0 =
       λ j m. ap (λ b. pick {A = ℕ} b 1 0) (sym (ap (ltb 0) (a.each j m) ∙ open_is claims weights g j)) in
-      let sum : sum_to i (λ j. pick {A = ℕ} (is_open claims weights g j) 1 0) ≡ sum_to i (wants true claims brought g) =
+      let sum : sum_to i (λ j. pick {A = ℕ} (is_open claims weights g j) 1 0) ≡ sum_to i (single brought) =
       sum_to-same i _ _ (λ j m. one j (omega arith)) in
       omega (arith, one i l)
 
@@ -228,14 +228,12 @@ module _ (claims weights : List ℕ) where
       (λ (z : given ≡ 0).
       let back : before ≡ g = raised-none (by_weight claims weights R g) g before (length claims) given size raised z in
       let nothing : sum_to (length claims) (by_weight claims weights R g) ≡ 0 = sym raised.total ∙ z in
-      let turn : Raised r after (length claims) g (in_turn R (wants (ltb 0 all) claims brought g)) = rw back at (done.served z) in
       ⊎_elim
       (λ (closed : all ≡ 0).
-      raised-pass R g _ r after (λ i l. kind-unweighted R g i (sym a ∙ closed))
-      (rw (le-ltb 0 all (omega arith)) at turn))
+      raised-pass R g _ r after (λ i l. kind-unweighted R g i (sym a ∙ closed)) (rw back at (done.unweighted z closed)))
       (λ (some : 0 < all).
       raised-pass R g _ r after (λ i l. kind-one_each R g i (omega arith) nothing ∙ singly-is R still g brought i l (rw back at w))
-      (rw (lt-ltb 0 all some) at turn))
+      (rw back at (done.singly z some)))
       (eq-zero-or-pos all))
       (λ (p : 0 < given).
       let some : 0 < open_weights claims weights g =
@@ -255,12 +253,6 @@ module _ (claims weights : List ℕ) where
       (λ (z : given ≡ 0). absurd (omega (arith, pass.0, pass_total-last claims weights R g short (sym raised.total ∙ z))))
       (λ (p : 0 < given). rw (done.stands p).1 w)
       (eq-zero-or-pos given)
-
-  -- what serving in turn may rely on
-  pub serving : (g brought : List ℕ) (all : ℕ) → length claims ≤ 32 → length g ≡ length claims → Weighed all claims weights g brought →
-      Serving claims brought g
-  serving g brought all few size w =
-      record { few = few; granted = size; unmet_there = λ i l some. brings-unmet claims weights g i (omega (arith, w.each i l)) }
 
 -- where a pass may begin: the running facts, and that going on from here is the share-out
 pub record Passing (pool : ℕ) (claims weights g : List ℕ) (left made : ℕ) : Type 0 where
@@ -389,9 +381,26 @@ module _ {pool R all made given still i : ℕ} {claims weights g brought grants 
             (noted-weights claims weights (weighted claims weights R g) brought noted still i r.sized.few (b.weighed some).room t.notes end);
       }
 
-  pub turned-serving : {fresh : List ℕ} → Ready pool claims weights fresh → length claims ≤ i → Serving claims noted grants
+  -- what serving in turn may rely on
+  pub turned-serving : {fresh : List ℕ} → Ready pool claims weights fresh → length claims ≤ i → Serving R claims grants
   turned-serving r end =
-      serving claims weights grants noted still r.sized.few (t.parts.size ∙ b.passing.running.size) (turned r end).weighed
+      let run = b.passing.running in
+      record {
+        few = r.sized.few;
+        granted = t.parts.size ∙ run.size;
+        pooled = omega (arith, r.pooled, run.counted);
+        ranged = λ k l.
+            omega (
+              arith,
+              ap (λ s. at s k) (turned r end).raised.grants,
+              at-tab (length claims) (λ j. at g j + by_weight claims weights R g j) k l,
+              sum_to-term (length claims) (at g) k l,
+              sum_to-term (length claims) (by_weight claims weights R g) k l,
+              by_weight-within claims weights R g,
+              run.balance,
+              r.pooled,
+            );
+      }
 
   -- the pass that is then completed is the definition's
   module _ {fresh after : List ℕ} {r : ℕ} where

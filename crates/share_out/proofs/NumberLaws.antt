@@ -1,7 +1,7 @@
 -- Refusal 9 as the code decides it: the pool first, then holder by holder.
 use Prim.Native.Nat.{ℕ, ◌+◌, ◌%◌, ◌≤◌, ◌<◌}
 use mathlib.Core.Path.{◌≡◌}
-use mathlib.Core.Bool.{true, false, not, ◌&&◌}
+use mathlib.Core.Bool.{Bool, true, false, not, ◌&&◌}
 use mathlib.Core.List.{List}
 use native.Mathlib.Nat.{mod-eq_of_lt}
 use native.Mathlib.Omega.{arith}
@@ -14,7 +14,7 @@ use Rattle.base.specs.Sums.{all_to}
 use Rattle.base.specs.Words.{at}
 use Rattle.base.proofs.ChoiceLaws.{and_left, and_right, and_both, or_left, or_right}
 use Rattle.base.proofs.ListLaws.{fold-or-most}
-use Rattle.base.proofs.SumLaws.{all_to-each, all_to-all}
+use Rattle.base.proofs.SumLaws.{all_to-each, all_to-all, all_to-both}
 use Rattle.base.proofs.TestLaws.{or-left-most, or-right-most}
 use Rattle.share_out.specs.Rule.{in_range, unfit_numbers}
 use Rattle.share_out.specs.Workers.Fit.{AtMost, Covered, raised}
@@ -70,8 +70,16 @@ surely-fit claims weights c w p q e =
     (le-leb (at claims i) 20480000000 (omega (arith, p i l)))
     (le-leb (at weights i) 100000000 (raised-most (at weights i) (omega (arith, q i l)))))
 
--- refusal 9 once the pool is in range
-pub by-holders : (pool : ℕ) (claims weights : List ℕ) → pool ≤ 20000000 →
-    not (all_to (length claims) (in_range claims weights)) ≡ unfit_numbers pool claims weights
+-- refusal 9 once the pool is in range, the claims and the weights each on their own
+pub by-lists : (pool : ℕ) (claims weights : List ℕ) {c w : Bool} → length weights ≡ length claims → pool ≤ 20000000 →
+    c ≡ all_to (length claims) (λ i. leb (at claims i) 20480000000) → w ≡ all_to (length weights) (λ i. leb (at weights i) 100000000) →
+    not (c && w) ≡ unfit_numbers pool claims weights
 unfolding unfit_numbers
-by-holders pool claims weights p = rw (le-ltb 20000000 pool p)
+by-lists pool claims weights size p e f =
+    rw (
+      e,
+      f,
+      size,
+      le-ltb 20000000 pool p,
+      all_to-both (length claims) (λ i. leb (at claims i) 20480000000) (λ i. leb (at weights i) 100000000),
+    )

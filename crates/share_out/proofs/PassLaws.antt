@@ -79,10 +79,6 @@ module _ (claims weights : List ℕ) where
       (λ t. lt-ltb 0 (at weights i) (open-weight g i t) ∙ sym t)
       (λ f. le-ltb 0 0 (le_refl 0) ∙ sym f)
 
-  -- an open holder has an unmet claim
-  pub brings-unmet : (g : List ℕ) (i : ℕ) → 0 < open_weight claims weights g i → 0 < unmet claims g i
-  brings-unmet g i p = open-unmet g i (sym (open_is g i) ∙ lt-ltb 0 (open_weight claims weights g i) p)
-
   -- W is a sum of weights in range
   pub open_weight-most : (most : ℕ) (g : List ℕ) (i : ℕ) → at weights i ≤ most → open_weight claims weights g i ≤ most
   open_weight-most most g i h =

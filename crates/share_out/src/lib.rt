@@ -1,17 +1,15 @@
 // The share-out: a pool over claims with weights, in passes (docs/RULES.md, "Share-out").
 #![tactic(auto)]
 
-ghost use Rattle.std.specs.Prelude.{◌≡◌, not, ◌&&◌, ℕ, ◌*◌, ◌/◌, ◌≤◌, length, leb, ltb};
+ghost use Rattle.std.specs.Prelude.{◌≡◌, ◌&&◌, ℕ, ◌*◌, ◌/◌, ◌≤◌, length, leb, ltb};
 ghost use Rattle.base.specs.Answers.{granted};
 ghost use Rattle.base.specs.Choice.{pick};
 ghost use Rattle.base.specs.Limits.{most_kw, most_claim_kw, most_load_share};
 ghost use Rattle.base.specs.Refused.{answer_of};
-ghost use Rattle.base.specs.Sums.{all_to};
 ghost use Rattle.base.specs.Words.{at};
-ghost use Rattle.share_out.specs.Rule.{shared, unfit_lengths, in_range, unfit_numbers, shared_answer, share_out};
-ghost use Rattle.share_out.specs.Turn.{in_turn};
-ghost use Rattle.share_out.specs.Workers.Fit.{Covered, above_weights, raised, kw_parts, none, wants, Weighable, Weighed, Rated};
-ghost use Rattle.share_out.specs.Workers.Fit.{Serving, Raised, Completed, Ready, Accepted};
+ghost use Rattle.share_out.specs.Rule.{shared, unfit_lengths, unfit_numbers, shared_answer, share_out};
+ghost use Rattle.share_out.specs.Workers.Fit.{Covered, above_weights, raised, kw_parts, none, Weighable, Weighed, Rated};
+ghost use Rattle.share_out.specs.Workers.Fit.{Serving, Served, Completed, Ready, Accepted};
 
 use base::limits::{MOST_CLAIM_KW, MOST_HOLDERS, MOST_KW, MOST_LOAD_SHARE};
 use base::refusals::Refusal;
@@ -34,13 +32,6 @@ fn unfit_lengths(claims: usize, weights: usize, output: usize) -> bool
     ensures { result ≡ unfit_lengths claims weights output }
 {
     (claims != weights) | ((MOST_HOLDERS < claims) | (output < claims))
-}
-
-// Whether a claim and a weight are within their ranges.
-fn in_range(claim: u64, weight: u64) -> bool
-    ensures { result ≡ (leb claim most_claim_kw && leb weight most_load_share) }
-{
-    (claim <= MOST_CLAIM_KW) & (weight <= MOST_LOAD_SHARE)
 }
 
 // The bits of all claims put together, which no claim is above.
@@ -73,17 +64,6 @@ fn surely_in_range(claims: u64, weights: u64) -> bool
     (claims <= MOST_CLAIM_KW) & (weights < ABOVE_WEIGHTS)
 }
 
-// Whether a claim or a weight is out of its range, tested one by one.
-fn some_out_of_range(claims: &[u64], weights: &[u64]) -> bool
-    requires { length weights.now ≡ length claims.now }
-    ensures { result ≡ not (all_to (length claims.now) (in_range claims.now weights.now)) }
-{
-    !claims
-        .iter()
-        .zip(weights)
-        .all(|(claim, weight)| in_range(*claim, *weight))
-}
-
 // Refusal 9: whether the pool, a claim or a weight is out of its range. Most lists are told by their bits alone. (Claims and
 // weights stay two lists, as C lends them: what is known of both differs from worker to worker, and stands in its record.)
 fn unfit_numbers(pool: u64, claims: &[u64], weights: &[u64]) -> bool
@@ -96,7 +76,7 @@ fn unfit_numbers(pool: u64, claims: &[u64], weights: &[u64]) -> bool
     if surely_in_range(claim_bits(claims), weight_bits(weights)) {
         return false;
     }
-    some_out_of_range(claims, weights)
+    !(vectors::all_within(claims, MOST_CLAIM_KW) & vectors::all_within(weights, MOST_LOAD_SHARE))
 }
 
 // The weight that a holder brings into W: its own if it is open.
@@ -150,28 +130,19 @@ fn weight_after(part: u64, unmet: u64, weight: u64) -> u64
     if part < unmet { weight } else { 0 }
 }
 
-// What a holder wants when holders are served in turn: singly 1 kW if it is open, else its unmet claim.
-fn want(singly: bool, unmet: u64, weight: u64) -> u64
-    ensures { result ≡ pick singly (pick (ltb 0 weight) 1 0) unmet }
-{
-    if singly {
-        if 0 < weight { 1 } else { 0 }
-    } else {
-        unmet
-    }
-}
-
-// Serves holders in turn, lowest number first, until the pool is empty; hands back the kW given.
-fn serve_in_turn(
+// Serves holders in turn, lowest number first, until the pool is empty: each gets what it wants, by its unmet claim and the
+// weight that it brings into W. Hands back the kW given.
+fn serve_in_turn<F: Fn(u64, u64) -> u64>(
     left: u64,
-    singly: bool,
+    want: F,
     claims: &[u64],
     open_weights: &[u64; MOST_HOLDERS],
     grants: &mut [u64],
 ) -> u64
-    requires { Serving claims.now open_weights.now grants.old }
+    requires lists { Serving left claims.now grants.old }
+    requires asked { F.IsAlwaysCallable want }
     ensures { let claims = claims.now in let g = grants.old in
-        Raised result grants.new (length claims) g (in_turn left (wants singly claims open_weights.now g)) }
+        Served (F.post want) left result claims open_weights.now g grants.new }
 {
     let mut rest = left;
     for (i, claim) in claims.iter().enumerate() {
@@ -179,14 +150,15 @@ fn serve_in_turn(
             return left;
         }
         let unmet = claim.saturating_sub(grants[i]);
-        let kw = want(singly, unmet, open_weights[i]).min(rest);
+        let kw = want(unmet, open_weights[i]).min(rest);
         grants[i] += kw;
         rest -= kw;
     }
     left - rest
 }
 
-// Completes a pass that gave `given` by weight: where that is 0, holders are served in turn, singly if any is open.
+// Completes a pass that gave `given` by weight: where that is 0, holders are served in turn, with 1 kW each of the open ones
+// if any is open, else with their unmet claims.
 fn complete(
     given: u64,
     left: u64,
@@ -195,14 +167,18 @@ fn complete(
     open_weights: &[u64; MOST_HOLDERS],
     grants: &mut [u64],
 ) -> u64
-    requires { Serving claims.now open_weights.now grants.old }
+    requires { Serving left claims.now grants.old }
     ensures { Completed given left all result claims.now open_weights.now
         grants.old grants.new }
 {
     if 0 < given {
         return given;
     }
-    serve_in_turn(left, 0 < all, claims, open_weights, grants)
+    if 0 < all {
+        let single = |_, weight| u64::from(0 < weight);
+        return serve_in_turn(left, single, claims, open_weights, grants);
+    }
+    serve_in_turn(left, |unmet, _| unmet, claims, open_weights, grants)
 }
 
 // Shares the pool out in passes until it is empty; hands back how many were made. From pass to pass it keeps W

@@ -39,10 +39,6 @@ whole s n e m =
     let exact : length s ≡ 12 + 8 * count s = eqb-true (length s) (12 + 8 * count s) (not-false _ p.1) in
     record { passes = e; records = m; few = omega arith; exact = omega arith }
 
--- the same, from what the test gave
-pub whole_by : (s : List ℕ) (b : Bool) → b ≡ bad_length s → b ≡ false → Whole s (count s)
-whole_by s b e f = whole s (count s) (sym e ∙ f) refl
-
 -- a number that is read as 0 of a short sheet
 pub long-enough : (s : List ℕ) (n x : ℕ) → bad_length s ≡ false → n ≡ pick (ltb (length s) 12) 0 x → n ≡ x
 long-enough s n x e m =

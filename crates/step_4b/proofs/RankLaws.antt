@@ -1,15 +1,14 @@
 -- Laws of the state after some ranks: one rank more, ranks without kW, and which words matter.
-use Prim.Native.Nat.{ℕ, zero, suc, ◌+◌, ◌-◌, ◌≤◌, ◌<◌, min}
+use Prim.Native.Nat.{ℕ, zero, suc, ◌+◌, ◌-◌, ◌≤◌, ◌<◌}
 use mathlib.Core.Path.{◌≡◌, refl, sym, ap, ◌∙◌}
 use mathlib.Core.Logic.{⊎_elim}
 use mathlib.Core.List.{List}
 use native.Mathlib.Nat.{add-zero, sub-zero, le_step, lt-suc_self, eq-zero-or-pos, eq-or-lt_of_le, le_of_suc-le-suc}
 use native.Mathlib.Numerals.{add-one}
 use native.Mathlib.Omega.{arith}
-use lib.ListN.{length}
 use lib.Seq.{set-get_or}
 use Rattle.base.specs.Words.{at}
-use Rattle.step_4b.specs.NewUse.{NewUse, covered, stays, next_rank, after_ranks, before_ranks, new_use}
+use Rattle.step_4b.specs.NewUse.{NewUse, covered, stays, next_rank, after_ranks}
 
 -- a record of 0 kW changes nothing
 pub next_rank-none : (intertie : ℕ) (s : NewUse) → next_rank 0 intertie s ≡ s
@@ -58,11 +57,3 @@ after_ranks-same kw kw' interties interties' zero s e h = refl
 after_ranks-same kw kw' interties interties' (suc r) s e h =
     rw (after_ranks-same kw kw' interties interties' r s (λ k l. e k (le_step l)) (λ k l. h k (le_step l)), ← e r (lt-suc_self r))
     (next_rank-same (at kw r) (at interties r) (at interties' r) (after_ranks kw' interties' r s) (h r (lt-suc_self r)))
-
--- lists of as many places as there are ranks
-pub new_use-ranks : (kw interties : List ℕ) (allowance : ℕ) (cover : List ℕ) (count n : ℕ) → length kw ≡ n → length interties ≡ n →
-    new_use kw interties allowance cover count ≡ after_ranks kw interties n (before_ranks allowance cover count)
-unfolding new_use
-new_use-ranks kw interties allowance cover count n k i =
-    let ranks : min (length kw) (length interties) ≡ n = omega arith in
-    rw ranks

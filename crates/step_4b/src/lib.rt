@@ -23,7 +23,7 @@ fn use_cover(kw: u64, intertie: usize, cover: &mut [u64]) -> u64
     kw - covered
 }
 
-// Keeps on the intertie what stays of the rest; hands back the allowance left.
+// Keeps on the intertie what stays of the rest; hands back the allowance left. (Tested and indexed, as in `use_cover`.)
 fn use_allowance(rest: u64, intertie: usize, allowance: u64, kept: &mut [u64]) -> u64
     requires { at kept.old intertie + allowance < 2 ^ 64 }
     ensures { let before = kept.old in let stays = min rest allowance in

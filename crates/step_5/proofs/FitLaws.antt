@@ -1,29 +1,28 @@
 -- What is known of lists and numbers once they are found to fit, and what they let the workers rely on.
 use Prim.Native.Nat.{ℕ, ◌≤◌, ◌<◌}
 use mathlib.Core.Path.{◌≡◌, sym, ap, ◌∙◌}
-use mathlib.Core.Bool.{true, false, ◌&&◌}
+use mathlib.Core.Bool.{Bool, true, ◌&&◌}
 use mathlib.Core.List.{List}
 use native.Mathlib.Omega.{arith}
 use lib.ListN.{length}
 use lib.Dec.{leb, eqb}
-use borrow.Author.Tests.{le-leb, lt-leb, eq-eqb, leb-true, eqb-true}
+use borrow.Author.Tests.{le-leb, eq-eqb, leb-true, eqb-true}
 use Rattle.base.specs.Choice.{pick}
 use Rattle.base.specs.Sums.{all_to}
 use Rattle.base.specs.Words.{at}
 use Rattle.base.proofs.ChoiceLaws.{pick-by, and_left, and_right, and_both}
-use Rattle.base.proofs.SumLaws.{sum_to-bound, all_to-each, all_to-all}
+use Rattle.base.proofs.SumLaws.{sum_to-bound, all_to-each, all_to-all, all_to-both}
 use Rattle.step_5.specs.Round.{eligible, together, gross_remaining, eligible_loads}
 use Rattle.step_5.specs.Outcome.{fit_lengths, in_range, fit_numbers}
 use Rattle.step_5.specs.Workers.Fit.{Marks, Accepted, Addends, Factors}
 
--- the numbers as the code decides them: T first, then holder by holder
-pub total-over : (total : ℕ) (held loads : List ℕ) → 2880000000 < total → fit_numbers total held loads ≡ false
+-- the numbers as the code decides them: T, the kW held and the load shares each on their own
+pub by-lists : (total : ℕ) (held loads : List ℕ) {h l : Bool} → length loads ≡ length held →
+    h ≡ all_to (length held) (λ i. leb (at held i) 2880000000) → l ≡ all_to (length loads) (λ i. leb (at loads i) 100000000) →
+    leb total 2880000000 && (h && l) ≡ fit_numbers total held loads
 unfolding fit_numbers
-total-over total held loads h = rw (lt-leb total 2880000000 h)
-
-pub by-holders : (total : ℕ) (held loads : List ℕ) → total ≤ 2880000000 → all_to (length held) (in_range held loads) ≡ fit_numbers total held loads
-unfolding fit_numbers
-by-holders total held loads h = rw (le-leb total 2880000000 h)
+by-lists total held loads size e f =
+    rw (e, f, size, all_to-both (length held) (λ i. leb (at held i) 2880000000) (λ i. leb (at loads i) 100000000))
 
 pub all_fit : (total : ℕ) (held loads : List ℕ) → total ≤ 2880000000 → all_to (length held) (in_range held loads) ≡ true → fit_numbers total held loads ≡ true
 unfolding fit_numbers

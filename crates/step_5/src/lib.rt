@@ -11,6 +11,7 @@ ghost use Rattle.step_5.specs.Outcome.{fit_lengths, fit_numbers, step5};
 ghost use Rattle.step_5.specs.Workers.Fit.{Marks, Addends, Factors, Quota};
 
 use base::limits::{MOST_HELD_KW, MOST_HOLDERS, MOST_LOAD_SHARE};
+use base::vectors;
 
 // The mark of a holder that may yet get a share. (Marks are numbers and no enum: a round adds what it excludes to the mark
 // and to their count, without a branch.)
@@ -26,23 +27,13 @@ fn fit_lengths(held: usize, loads: usize, shares: usize) -> bool
     (held == loads) & ((held <= MOST_HOLDERS) & (held <= shares))
 }
 
-// Whether a holder's kW and load share are within their ranges.
-fn in_range(held: u64, load: u64) -> bool
-    ensures { result ≡ (leb held most_held_kw && leb load most_load_share) }
-{
-    (held <= MOST_HELD_KW) & (load <= MOST_LOAD_SHARE)
-}
-
 // Whether T and every holder's numbers are within their ranges.
 fn fit_numbers(total: u64, held: &[u64], loads: &[u64]) -> bool
     requires { length loads.now ≡ length held.now }
     ensures { result ≡ fit_numbers total held.now loads.now }
 {
-    total <= MOST_HELD_KW
-        && held
-            .iter()
-            .zip(loads)
-            .all(|(held, load)| in_range(*held, *load))
+    (total <= MOST_HELD_KW)
+        & (vectors::all_within(held, MOST_HELD_KW) & vectors::all_within(loads, MOST_LOAD_SHARE))
 }
 
 // The number if a holder's own mark is the one asked for, else 0.

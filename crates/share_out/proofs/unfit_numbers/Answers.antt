@@ -1,6 +1,6 @@
--- `unfit_numbers` meets its contract: by the pool, by the bits of all, or by each holder.
+-- `unfit_numbers` meets its contract: by the pool, by the bits of all, or number by number.
 use Rattle.base.proofs.Prelude.{sym, ◌∙◌, arith, rules}
-use Rattle.share_out.proofs.NumberLaws.{pool-over, surely-fit, all_fit, by-holders}
+use Rattle.share_out.proofs.NumberLaws.{pool-over, surely-fit, all_fit, by-lists}
 use Rattle.share_out.proofs.unfit_numbers.Goals as goal
 
 pub returns-then-pool-gt-MOST_KW : goal.returns-then-pool-gt-MOST_KW
@@ -16,6 +16,4 @@ returns-then-surely_in_range c =
     (surely-fit claims weights _ _ c.claim_bits.ensures (λ i l. w.ensures i (omega (arith, c.requires))) (sym c.surely_in_range.ensures ∙ c.if-surely_in_range.true)))
 
 pub returns : goal.returns
-returns c =
-    let a = c.args in
-    c.some_out_of_range.ensures ∙ by-holders a.pool a.claims.now a.weights.now c.if-pool-gt-MOST_KW.false
+returns c = search (rules, by-lists)

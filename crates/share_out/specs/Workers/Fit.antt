@@ -1,5 +1,5 @@
 -- What the workers of a share-out are handed once refusals 5 and 9 are decided.
-use Rattle.std.specs.Prelude.{ℕ, ◌+◌, ◌*◌, ◌/◌, ◌%◌, ◌≤◌, ◌<◌, ◌≡◌, Bool, false, List, length, ltb}
+use Rattle.std.specs.Prelude.{ℕ, ◌+◌, ◌*◌, ◌/◌, ◌%◌, ◌≤◌, ◌<◌, ◌≡◌, false, List, length, ltb}
 use Rattle.std.specs.Int.Bits.{bit_or}
 use Rattle.base.specs.Choice.{pick}
 use Rattle.base.specs.Limits.{most_holders, most_kw, most_load_share}
@@ -52,25 +52,35 @@ pub record Weighed (all : ℕ) (claims weights g brought : List ℕ) : Type 0 wh
   pub total : all ≡ open_weights claims weights g
   pub each : (i : ℕ) → i < length claims → at brought i ≡ open_weight claims weights g i
 
--- what serving in turn is handed: a grant for each of at most 32 claims, and `brought` above 0 only where a claim is unmet
-pub record Serving (claims brought grants : List ℕ) : Type 0 where
+-- what serving in turn is handed: a grant for each of at most 32 claims, and numbers that add up within 64 bits
+pub record Serving (left : ℕ) (claims grants : List ℕ) : Type 0 where
   pub few : length claims ≤ most_holders
   pub granted : length grants ≡ length claims
-  pub unmet_there : (i : ℕ) → i < length claims → 0 < at brought i → 0 < unmet claims grants i
-
--- what holder i wants when holders are served in turn: singly, 1 kW if it is open; else its unmet claim
-abbrev pub wants : Bool → List ℕ → List ℕ → List ℕ → ℕ → ℕ
-wants singly claims brought g i = pick singly (pick (ltb 0 (at brought i)) 1 0) (unmet claims g i)
+  pub pooled : left ≤ most_kw
+  pub ranged : AtMost (length claims) grants most_kw
 
 -- given is what kw gives the first n holders together, and after has it on top of g
 pub record Raised (given : ℕ) (after : List ℕ) (n : ℕ) (g : List ℕ) (kw : ℕ → ℕ) : Type 0 where
   pub total : given ≡ sum_to n kw
   pub grants : after ≡ tab n (λ i. at g i + kw i)
 
+-- what holder i wants is kw i, by what is answered of its unmet claim and of the weight that it brings
+abbrev pub Wanting : (ℕ → ℕ → ℕ → Type 0) → List ℕ → List ℕ → List ℕ → (ℕ → ℕ) → Type 0
+Wanting answers claims brought g kw = (i x : ℕ) → i < length claims → answers (unmet claims g i) (at brought i) x → x ≡ kw i
+
+-- holders are served in turn with what they want
+pub record Served (answers : ℕ → ℕ → ℕ → Type 0) (left given : ℕ) (claims brought g after : List ℕ) : Type 0 where
+  pub raised : (kw : ℕ → ℕ) → Wanting answers claims brought g kw → Raised given after (length claims) g (in_turn left kw)
+
+-- 1 kW of each holder that brings a weight
+abbrev pub single : List ℕ → ℕ → ℕ
+single brought i = pick (ltb 0 (at brought i)) 1 0
+
 -- a pass that gave something by weight is left as it is; else holders are served in turn, singly if any is open
 pub record Completed (given left all r : ℕ) (claims brought g after : List ℕ) : Type 0 where
   pub stands : 0 < given → (r ≡ given) × (after ≡ g)
-  pub served : given ≡ 0 → Raised r after (length claims) g (in_turn left (wants (ltb 0 all) claims brought g))
+  pub singly : given ≡ 0 → 0 < all → Raised r after (length claims) g (in_turn left (single brought))
+  pub unweighted : given ≡ 0 → all ≡ 0 → Raised r after (length claims) g (in_turn left (unmet claims g))
 
 -- a pool and a weight in range, the weight among those that `all` sums, and the rate: left / all in parts of a kW
 pub record Rated (left weight all rate : ℕ) : Type 0 where
