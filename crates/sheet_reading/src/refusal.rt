@@ -142,9 +142,7 @@ pub fn read_sheet(sheet: &[u8], tables: &mut Tables) -> Result<(), Refusal>
     ensures { ReadSheet sheet.now tables.old (number_in result) tables.new }
 {
     sizes_stand(sheet)?;
-    tables.counts = [0; SLOTS];
-    tables.kw = [0; SLOTS];
-    tables.interties = [0; SLOTS];
+    *tables = Tables::empty();
     let mut found = [0; MOST_RECORDS];
     tables::find_slots(sheet, &mut found);
     tables::place_records(sheet, &found, &mut tables.interties);

@@ -14,10 +14,10 @@ pub find_slots-requires : goal.find_slots-requires
 find_slots-requires c = ((sizes-pass _ (sym c.sizes_stand.ensures ∙ ap number_in c.in_ok-sizes_stand.was)).0, refl)
 
 pub place_records-requires : goal.place_records-requires
-place_records-requires c = ((sizes-pass _ (sym c.sizes_stand.ensures ∙ ap number_in c.in_ok-sizes_stand.was)).0, c.find_slots.ensures, refl)
+place_records-requires c = ((sizes-pass _ (sym c.sizes_stand.ensures ∙ ap number_in c.in_ok-sizes_stand.was)).0, c.find_slots.ensures, c.empty.ensures.2)
 
 pub read_sized-requires : goal.read_sized-requires
-read_sized-requires c = (sym c.sizes_stand.ensures ∙ ap number_in c.in_ok-sizes_stand.was, c.find_slots.ensures, refl, refl)
+read_sized-requires c = (sym c.sizes_stand.ensures ∙ ap number_in c.in_ok-sizes_stand.was, c.find_slots.ensures, c.empty.ensures.0, c.empty.ensures.1)
 
 pub returns : goal.returns
 returns c =
