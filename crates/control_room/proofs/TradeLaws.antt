@@ -33,8 +33,8 @@ traded-chunk calls answers k j n party h inside within =
 
 -- the test that is made of a call and its answer, by the number of a trade's kind and the word of the party
 module _ (call answer : List ℕ) (party h number word : ℕ) (number-is : number ≡ 1) (word-is : word ≡ party) where
-  pub traded-yes : ((eqb (at call 0) number && eqb (at answer 0) 0) && eqb h (at call word)) ≡ true → at call 4 ≡ traded_by call answer party h
-  traded-yes t = sym (pick_true _ _ _ (rw (number-is, word-is) at t))
+  pub traded_yes : ((eqb (at call 0) number && eqb (at answer 0) 0) && eqb h (at call word)) ≡ true → at call 4 ≡ traded_by call answer party h
+  traded_yes t = sym (pick_true _ _ _ (rw (number-is, word-is) at t))
 
-  pub traded-no : ((eqb (at call 0) number && eqb (at answer 0) 0) && eqb h (at call word)) ≡ false → 0 ≡ traded_by call answer party h
-  traded-no t = sym (pick-false _ _ _ (rw (number-is, word-is) at t))
+  pub traded_no : ((eqb (at call 0) number && eqb (at answer 0) 0) && eqb h (at call word)) ≡ false → 0 ≡ traded_by call answer party h
+  traded_no t = sym (pick-false _ _ _ (rw (number-is, word-is) at t))

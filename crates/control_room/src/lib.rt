@@ -6,11 +6,11 @@ mod sums;
 mod trades;
 
 ghost use Rattle.std.specs.Prelude.{◌≡◌};
-ghost use Rattle.control_room.specs.Figures.{intertie_figures, holder_figures, is_intertie, is_holder};
+ghost use Rattle.control_room.specs.Figures.{intertie_figures, holder_figures};
 
 use base::limits::STATE_WORDS;
-use journal::sizes::{ANSWERS_WORDS, CALLS_WORDS};
 use state::layout;
+pub use trades::Called;
 use trades::Party;
 
 // The figures of an intertie, in kW: reserved is E, P and N of all holders on it, placed and taken are
@@ -38,56 +38,38 @@ pub struct HolderFigures {
     pub locked: u64,
 }
 
-// Whether the state's sizes are in range and the intertie is below I.
-fn is_intertie(state: &[u32; STATE_WORDS], intertie: u32) -> bool
-    ensures { result ≡ is_intertie state.now intertie }
-{
-    sums::sizes_in_range(state) & (intertie < state::intertie_count(state))
-}
-
-// Whether the state's sizes are in range and the holder is below H.
-fn is_holder(state: &[u32; STATE_WORDS], holder: u32) -> bool
-    ensures { result ≡ is_holder state.now holder }
-{
-    sums::sizes_in_range(state) & (holder < state::holder_count(state))
-}
-
 // The figures of an intertie; all 0 where the state has none of that number, as they are printed then (an Option would be no
 // plainer).
+#[tactic(auto, using(crate::proofs::FigureLaws::few_holders, crate::proofs::FigureLaws::intertie_read))]
 pub fn intertie_figures(state: &[u32; STATE_WORDS], intertie: u32) -> IntertieFigures
     ensures { result ≡ intertie_figures state.now intertie }
 {
-    if !is_intertie(state, intertie) {
+    if !sums::is_among(state, intertie, state::intertie_count(state)) {
         return IntertieFigures::default();
     }
     IntertieFigures {
         limit: sums::field_word(state, layout::LIMIT, intertie),
         outside: sums::field_word(state, layout::OUTSIDE, intertie),
         reserved: sums::reserved_on(state, intertie),
-        placed: sums::on_intertie(state, layout::PLACED, intertie),
-        taken: sums::on_intertie(state, layout::TAKEN, intertie),
+        placed: state::on_intertie(state, layout::PLACED, intertie),
+        taken: state::on_intertie(state, layout::TAKEN, intertie),
         unassigned: sums::field_word(state, layout::UNASSIGNED, intertie),
     }
 }
 
-// The figures of a holder, with the trades of the first `count` calls; all 0 where the state has no
-// holder of that number.
-pub fn holder_figures(
-    state: &[u32; STATE_WORDS],
-    calls: &[u32; CALLS_WORDS],
-    answers: &[u64; ANSWERS_WORDS],
-    count: usize,
-    holder: u32,
-) -> HolderFigures
-    ensures { result ≡ holder_figures state.now calls.now answers.now count holder }
+// The figures of a holder, with the trades of the calls; all 0 where the state has no holder of that number.
+#[tactic(auto, using(crate::proofs::FigureLaws::holder_read), unfolding(crate::specs::Trades::bought, crate::specs::Trades::sold))]
+pub fn holder_figures(state: &[u32; STATE_WORDS], called: Called<'_>, holder: u32) -> HolderFigures
+    ensures { let c = called.entry in
+        result ≡ holder_figures state.now c.calls.now c.answers.now c.count holder }
 {
-    if !is_holder(state, holder) {
+    if !sums::is_among(state, holder, state::holder_count(state)) {
         return HolderFigures::default();
     }
     HolderFigures {
         step_5_share: sums::field_word(state, layout::STEP_5_SHARE, holder),
-        bought: trades::traded(calls, answers, count, Party::Buyer, holder),
-        sold: trades::traded(calls, answers, count, Party::Seller, holder),
+        bought: called.traded(Party::Buyer, holder),
+        sold: called.traded(Party::Seller, holder),
         placed: state::of_holder(state, layout::PLACED, holder),
         unplaced: sums::field_word(state, layout::UNPLACED, holder),
         reserved: sums::field_word(state, layout::RESERVED, holder),

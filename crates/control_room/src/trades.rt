@@ -27,6 +27,7 @@ impl Party {
 const KW: usize = 4;
 
 // The kW of a call where it is a granted trade with the holder as the party, else 0.
+#[tactic(auto, using(crate::proofs::TradeLaws::traded_yes, crate::proofs::TradeLaws::traded_no))]
 fn traded_in(
     call: &[u32; CALL_WORDS],
     answer: &[u64; ANSWER_WORDS],
@@ -42,21 +43,31 @@ fn traded_in(
     0
 }
 
-// The kW of the first calls that are granted trades with the holder as the party, as far as there are words for calls.
-pub(super) fn traded(
-    calls: &[u32; CALLS_WORDS],
-    answers: &[u64; ANSWERS_WORDS],
-    count: usize,
-    party: Party,
-    holder: u32,
-) -> u64
-    ensures { result ≡ sum_to (min count most_calls) (traded_in calls.now answers.now (word_of party) holder) }
-{
-    let (calls, _) = calls.as_chunks::<CALL_WORDS>();
-    let (answers, _) = answers.as_chunks::<ANSWER_WORDS>();
-    let mut sum: u64 = 0;
-    for n in 0..count.min(MOST_CALLS) {
-        sum += traded_in(&calls[n], &answers[n], party, holder) as u64;
+// The first calls of a list, with the answers to them.
+#[derive(Clone, Copy)]
+pub struct Called<'a> {
+    pub calls: &'a [u32; CALLS_WORDS],
+    pub answers: &'a [u64; ANSWERS_WORDS],
+    pub count: usize,
+}
+
+impl Called<'_> {
+    // The kW of these calls that are granted trades with the holder as the party, as far as there are words for calls.
+    pub(super) fn traded(self, party: Party, holder: u32) -> u64
+        ensures { let called = self.entry in
+            result ≡ sum_to (min called.count most_calls) (traded_in called.calls.now called.answers.now (word_of party) holder) }
+    {
+        let Called {
+            calls,
+            answers,
+            count,
+        } = self;
+        let (calls, _) = calls.as_chunks::<CALL_WORDS>();
+        let (answers, _) = answers.as_chunks::<ANSWER_WORDS>();
+        let mut sum = 0;
+        for n in 0..count.min(MOST_CALLS) {
+            sum += u64::from(traded_in(&calls[n], &answers[n], party, holder));
+        }
+        sum
     }
-    sum
 }

@@ -3,7 +3,7 @@
 
 pub mod layout;
 
-ghost use Rattle.std.specs.Prelude.{◌≡◌, ℕ, ◌+◌, set};
+ghost use Rattle.std.specs.Prelude.{◌≡◌, ℕ, ◌+◌, ◌*◌, ◌≤◌, set};
 ghost use Rattle.base.specs.Sums.{sum_to};
 ghost use Rattle.base.specs.Words.{at};
 ghost use Rattle.state.specs.Layout.{place, interties, holders, stage_of};
@@ -68,6 +68,19 @@ pub fn of_holder(state: &[u32], field: u32, holder: u32) -> u64
     let mut sum = 0;
     for intertie in 0..intertie_count(state) {
         sum += u64::from(pair_word(state, field, holder, intertie));
+    }
+    sum
+}
+
+// A field of the pairs on an intertie, summed over the holders.
+pub fn on_intertie(state: &[u32], field: u32, intertie: u32) -> u64
+    ensures { let s = state.now in
+        (result ≡ sum_to (holders s) (λ (h : ℕ). at s (place (field + h) intertie))) × (result ≤ holders s * 4294967295) }
+{
+    let mut sum = 0;
+    for holder in 0..holder_count(state) {
+        let word = pair_word(state, field, holder, intertie);
+        sum += u64::from(word);
     }
     sum
 }

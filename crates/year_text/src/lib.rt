@@ -10,6 +10,7 @@ ghost use Rattle.year_text.specs.Text.{intertie_line, interties_text, holder_lin
 use arrayvec::ArrayVec;
 use base::encoding::ANSWER_WORDS;
 use base::limits::{GRANTS_WORDS, MOST_HOLDERS, MOST_INTERTIES, STATE_WORDS};
+use control_room::Called;
 use journal::sizes::{ANSWERS_WORDS, CALLS_WORDS};
 use text::put_line;
 
@@ -112,25 +113,29 @@ pub fn holders_text(
     ensures { text.new.items ≡ holders_text state.now calls.now answers.now count }
 {
     text.clear();
+    let called = Called {
+        calls,
+        answers,
+        count,
+    };
     let end = state::holder_count(state).min(MOST_HOLDERS as u32);
     for holder in 0..end {
-        put_holder(state, calls, answers, count, holder, text);
+        put_holder(state, called, holder, text);
     }
 }
 
 // The figures of a holder.
 fn put_holder(
     state: &[u32; STATE_WORDS],
-    calls: &[u32; CALLS_WORDS],
-    answers: &[u64; ANSWERS_WORDS],
-    count: usize,
+    called: Called<'_>,
     holder: u32,
     text: &mut ArrayVec<u8, TEXT_BYTES>,
 )
-    ensures { let line = holder_line state.now calls.now answers.now count holder in
+    ensures { let c = called.entry in
+        let line = holder_line state.now c.calls.now c.answers.now c.count holder in
         text.new.items ≡ appended text_bytes line text.old.items }
 {
-    let figures = control_room::holder_figures(state, calls, answers, count, holder);
+    let figures = control_room::holder_figures(state, called, holder);
     let numbers = [
         holder as u64,
         figures.step_5_share,
