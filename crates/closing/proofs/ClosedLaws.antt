@@ -1,72 +1,51 @@
--- What a closing leaves in the grants buffer and in the state, from what its workers leave, and what it answers.
-use Prim.Native.Nat.{ℕ, ◌+◌, ◌-◌, ◌*◌, ◌/◌, ◌%◌, ◌≤◌, ◌<◌}
-use mathlib.Core.Path.{◌≡◌, sym, ap, ◌∙◌}
-use mathlib.Core.Bool.{not, ◌&&◌}
+-- What a closing leaves in the state, from what its workers leave, and what it answers.
+use Prim.Native.Nat.{ℕ, ◌+◌, ◌-◌, ◌*◌, ◌%◌, ◌≤◌, ◌<◌}
+use mathlib.Core.Path.{◌≡◌, refl, sym, ap, ◌∙◌}
 use mathlib.Core.List.{List}
-use native.Mathlib.Nat.{mod-lt}
 use native.Mathlib.Omega.{arith}
-use lib.Dec.{leb, ltb}
 use lib.ListN.{length, set}
-use borrow.Author.Tests.{ne_eqb, ltb-false, leb-true, not-false}
 use Rattle.base.specs.Choice.{pick}
 use Rattle.base.specs.Sums.{sum_to}
-use Rattle.base.specs.Words.{at, fill}
+use Rattle.base.specs.Words.{at, tab}
 use Rattle.base.specs.Answers.{refused, granted}
 use Rattle.base.specs.declared.Answer.{Answer}
 use Rattle.base.specs.declared.refusals.Refusal.{Refusal}
 use Rattle.base.specs.Refused.{number_of}
 use Rattle.base.proofs.RefusedLaws.{numbered}
-use Rattle.base.proofs.ChoiceLaws.{and_right}
 use Rattle.base.proofs.SumLaws.{sum_to-same}
-use Rattle.base.proofs.WordLaws.{fill-same, at_fill, length-fill}
+use Rattle.base.proofs.WordLaws.{at-tab}
 use Rattle.intertie_shares.specs.Pairs.{at_pair}
 use Rattle.state.specs.Layout.{place, interties, holders, stage_at, stage_of, unassigned_of, unplaced_of, placed_of}
-use Rattle.state.specs.Orderly.{state_refusal}
-use Rattle.state.proofs.OrderlyLaws.{Orderly, unassigned-most, unplaced-most, placed-most}
+use Rattle.state.proofs.OrderlyLaws.{Orderly, none-refused, unassigned-most, unplaced-most, placed-most}
 use Rattle.state_rows.specs.Rows.{fill_row, fill_pairs, fit_row, fit_field, fit_pairs}
 use Rattle.state_rows.proofs.RowLaws.{length-fill_row, at-fill_row-apart, length-fill_pairs}
-use Rattle.call.specs.Outcome.{or_else, whenever}
-use Rattle.call.proofs.LadderLaws.{none_first, none-second, not-whenever, not_first}
-use Rattle.closing.specs.Close.{close_refusal, close_grant, close_kw, close_passes, granted_to, granted_on, close_state, close_grants, Closed, close}
-use Rattle.closing.specs.Workers.Work.{Closable, Granted, Written}
-use Rattle.closing.proofs.TableLaws.{zeros, length-zeros, in-holders, some-interties}
 use Rattle.state_rows.proofs.FitLaws.{cleared-pairs}
+use Rattle.closing.specs.Close.{close_refusal, close_grant, close_kw, close_passes, granted_to, granted_on, close_state, close_grants, close}
+use Rattle.closing.specs.Workers.Work.{Closable, Grants, Written}
+use Rattle.closing.proofs.CloseLaws.{close-done, close-granted, close-refused}
+use Rattle.closing.proofs.SharingLaws.{at-read, length-read}
 use Rattle.closing.proofs.StoreLaws.{stored_row, raised-pairs}
 
--- the grants buffer
-pub grants-are : (s table grants after : List ℕ) (I H : ℕ) → Granted s table → I ≡ interties s → H ≡ holders s →
-    after ≡ fill (H * I) (λ p. at_pair table (p / I) (p % I)) grants → after ≡ close_grants s grants
-unfolding close_grants
-grants-are s table grants after I H g e f a =
-    let own : after ≡ fill (holders s * interties s) (λ p. at_pair table (p / interties s) (p % interties s)) grants = rw (e, f) at a in
-    own
-    ∙ fill-same (holders s * interties s) (λ p. at_pair table (p / interties s) (p % interties s))
-    (λ p. close_grant s (p / interties s) (p % interties s)) grants
-    (λ p l.
-    g.pairs (p / interties s) (p % interties s) (in-holders (interties s) (holders s) p l)
-    (mod-lt p (some-interties (interties s) (holders s) p l)))
+-- what is left on each intertie, and to each holder, once a table of the grants is taken off what was read
+module _ (s table : List ℕ) (g : Grants s table) where
+  pub unassigned-left : (n H : ℕ) (read after : List ℕ) → interties s ≤ n → H ≡ holders s → read ≡ tab n (λ c. at s (place 104 c)) →
+      after ≡ tab (length read) (λ i. at read i - sum_to H (λ h. at_pair table h i)) → (i : ℕ) → i < interties s → at after i ≡ unassigned_of s i - granted_on s i
+  unassigned-left n H read after few f r e i l =
+      ap (λ k. at k i) e
+      ∙ at-tab (length read) _ i (omega (arith, length-read s n read 104 r))
+      ∙ ap (λ x. x - sum_to H (λ h. at_pair table h i)) (at-read s n read 104 i r (omega arith))
+      ∙ rw f (ap (λ x. unassigned_of s i - x) (sum_to-same (holders s) (λ h. at_pair table h i) (λ h. close_grant s h i) (λ h k. g.pairs h i k l)))
 
--- the numbers that are written over two rows of the state
-pub written : (s table unassigned unplaced : List ℕ) (I H : ℕ) → Orderly s → Granted s table → I ≡ interties s → H ≡ holders s →
-    48 ≤ length unassigned → ((i : ℕ) → i < interties s → at unassigned i ≡ unassigned_of s i - sum_to (holders s) (λ h. at_pair table h i)) →
-    unplaced ≡ fill H (λ h. unplaced_of s h - sum_to I (λ i. at_pair table h i)) (zeros 32) → Written s unassigned unplaced
-written s table unassigned unplaced I H o g e f long-row u v =
-    let left : ℕ → ℕ = λ h. unplaced_of s h - sum_to (interties s) (λ i. at_pair table h i) in
-    let n : length (zeros 32) ≡ 32 = length-zeros 32 in
-    let own : unplaced ≡ fill (holders s) left (zeros 32) = rw (e, f) at v in
-    record {
-      unassigned-size = long-row;
-      unassigned-is = λ i l.
-          u i l
-          ∙ ap (λ k. unassigned_of s i - k) (sum_to-same (holders s) (λ h. at_pair table h i) (λ h. close_grant s h i) (λ h k. g.pairs h i k l));
-      unplaced-size = omega (arith, ap length own, length-fill (holders s) left (zeros 32));
-      unplaced-is = λ h k.
-          ap (λ l. at l h) own ∙ at_fill (holders s) left (zeros 32) h k (omega (arith, o.holders-most))
-          ∙ ap (λ x. unplaced_of s h - x) (sum_to-same (interties s) (λ i. at_pair table h i) (λ i. close_grant s h i) (λ i l. g.pairs h i k l));
-    }
+  pub unplaced-left : (n I : ℕ) (read after : List ℕ) → holders s ≤ n → I ≡ interties s → read ≡ tab n (λ c. at s (place 105 c)) →
+      after ≡ tab (length read) (λ h. at read h - sum_to I (λ i. at_pair table h i)) → (h : ℕ) → h < holders s → at after h ≡ unplaced_of s h - granted_to s h
+  unplaced-left n I read after low f r e h k =
+      ap (λ l. at l h) e
+      ∙ at-tab (length read) _ h (omega (arith, length-read s n read 105 r))
+      ∙ ap (λ x. x - sum_to I (λ i. at_pair table h i)) (at-read s n read 105 h r (omega arith))
+      ∙ rw f (ap (λ x. unplaced_of s h - x) (sum_to-same (interties s) (λ i. at_pair table h i) (λ i. close_grant s h i) (λ i l. g.pairs h i k l)))
 
 -- the state, store by store
-pub state-is : (s unassigned unplaced table t1 t2 t3 t4 t5 : List ℕ) (I H stage : ℕ) → 16000 ≤ length s → Orderly s → Granted s table → Written s unassigned unplaced →
+pub state-is : (s unassigned unplaced table t1 t2 t3 t4 t5 : List ℕ) (I H stage : ℕ) → 16000 ≤ length s → Orderly s → Grants s table → Written s unassigned unplaced →
     I ≡ interties s → H ≡ holders s → stage ≡ stage_of s →
     t1 ≡ pick (fit_row (length s) 104 I (length unassigned)) (fill_row 104 I (λ c. at unassigned c % 4294967296) s) s →
     t2 ≡ pick (fit_row (length t1) 105 H (length unplaced)) (fill_row 105 H (λ c. at unplaced c % 4294967296) t1) t1 →
@@ -101,41 +80,28 @@ state-is s unassigned unplaced table t1 t2 t3 t4 t5 I H stage long o d w e f g a
     rw (a5, e4, e3, e2, e1, e, f, g)
 
 -- what holds where no refusal applies
-pub closable : (s grants : List ℕ) → close_refusal s grants ≡ 0 → Closable s × (1536 ≤ length grants)
-unfolding close_refusal
+pub closable : (s grants : List ℕ) → 0 ≡ close_refusal s grants → Closable s × (1536 ≤ length grants)
 closable s grants e =
-    let stage = leb 1 (stage_of s) && leb (stage_of s) 3 in
-    let first = not_first (ltb (length grants) 1536) 5 (or_else (state_refusal s) (whenever (not stage) 7)) (omega arith) e in
-    let in-stage = not-false stage (not-whenever (not stage) 7 (omega arith) (none-second (state_refusal s) _ first.1)) in (
+    let d = close-done s grants (sym e) in (
       record {
-        fit = none_first (state_refusal s) _ first.1;
-        stage-most = leb-true (stage_of s) 3 (and_right (leb 1 (stage_of s)) (leb (stage_of s) 3) in-stage);
+        fit = none-refused d.long d.orderly;
+        long = d.long;
+        few = d.orderly.interties-most;
+        low = d.orderly.holders-most;
+        stage-most = d.stage-most;
       },
-      ltb-false (length grants) 1536 first.0,
+      d.room,
     )
 
--- the call by its number
-pub close-done : (s grants : List ℕ) → close_refusal s grants ≡ 0 →
-    close s grants ≡ record { answer = granted (close_kw s) (close_passes s); state = close_state s; grants = close_grants s grants }
-unfolding close
-close-done s grants e = rw e
-
-pub close-refused : (s grants : List ℕ) → (close_refusal s grants ≡ 0 → ⊥) →
-    close s grants ≡ record { answer = refused (close_refusal s grants); state = s; grants = grants }
-unfolding close
-close-refused s grants some = rw (ne_eqb (close_refusal s grants) 0 some)
-
--- the same of what a function answered and left, by the number that it found
+-- what a function answered and left is what the call gives, by the number that it found
 pub is_refused : (s grants : List ℕ) (refusal : Refusal) → number_of refusal ≡ close_refusal s grants →
     (refused (number_of refusal) ≡ (close s grants).answer) × (s ≡ (close s grants).state) × (grants ≡ (close s grants).grants)
 is_refused s grants refusal e =
-    let n = number_of refusal in
-    let some : n ≡ 0 → ⊥ = λ z. omega (arith, numbered refusal) in
-    let o : close s grants ≡ record { answer = refused n; state = s; grants = grants } = rw e (close-refused s grants (rw e at some)) in
-    (sym (ap (λ (x : Closed). x.answer) o), sym (ap (λ (x : Closed). x.state) o), sym (ap (λ (x : Closed). x.grants) o))
+    let some : number_of refusal ≡ 0 → ⊥ = λ z. omega (arith, numbered refusal) in
+    let o : close s grants ≡ record { answer = refused (number_of refusal); state = s; grants = grants } =
+    rw e (close-refused s grants (rw e at some)) in
+    rw o (refl, refl, refl)
 
 pub is_done : (s grants t after : List ℕ) (r : Answer) → 0 ≡ close_refusal s grants → r ≡ granted (close_kw s) (close_passes s) →
     t ≡ close_state s → after ≡ close_grants s grants → (r ≡ (close s grants).answer) × (t ≡ (close s grants).state) × (after ≡ (close s grants).grants)
-is_done s grants t after r z told left wrote =
-    let o = close-done s grants (sym z) in
-    (told ∙ sym (ap (λ (x : Closed). x.answer) o), left ∙ sym (ap (λ (x : Closed). x.state) o), wrote ∙ sym (ap (λ (x : Closed). x.grants) o))
+is_done s grants t after r z told left wrote = rw (close-granted s grants (sym z)) (told, left, wrote)

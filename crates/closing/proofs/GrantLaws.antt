@@ -7,13 +7,11 @@ use Rattle.base.specs.Choice.{pick}
 use Rattle.base.specs.Sums.{sum_to}
 use Rattle.base.proofs.ChoiceLaws.{pick-by, sum_to-pick}
 use Rattle.base.proofs.SumLaws.{sum_to-same, sum_to-le, sum_to-zeros}
-use Rattle.intertie_shares.specs.Pairs.{at_pair}
 use Rattle.intertie_shares.specs.Rule.{share_out_on, grant_on}
 use Rattle.state.specs.Layout.{interties, holders, unassigned_of, unplaced_of, pending_of}
 use Rattle.state.proofs.OrderlyLaws.{Orderly}
 use Rattle.weights.specs.Weight.{weight_of}
 use Rattle.closing.specs.Close.{shares_out, close_grant, close_kw, granted_to, granted_on}
-use Rattle.closing.specs.Workers.Work.{Granted}
 use Rattle.closing.proofs.UniformLaws.{shared_kept}
 
 module _ (s : List ℕ) where
@@ -60,11 +58,3 @@ module _ (s : List ℕ) where
 
   pub granted-to-most : Orderly s → (h : ℕ) → h < holders s → granted_to s h ≤ unplaced_of s h
   granted-to-most o h p = le_trans (granted-to-pending h p) (o.pending-most h p)
-
--- so are the sums of a table of the grants
-module _ (s table : List ℕ) (g : Granted s table) where
-  pub table_on : (i : ℕ) → i < interties s → sum_to (holders s) (λ h. at_pair table h i) ≤ unassigned_of s i
-  table_on i l = rw (sum_to-same (holders s) (λ h. at_pair table h i) (λ h. close_grant s h i) (λ h k. g.pairs h i k l)) (granted-on-most s i)
-
-  pub table_to : Orderly s → (h : ℕ) → h < holders s → sum_to (interties s) (λ i. at_pair table h i) ≤ unplaced_of s h
-  table_to o h k = rw (sum_to-same (interties s) (λ i. at_pair table h i) (λ i. close_grant s h i) (λ i l. g.pairs h i k l)) (granted-to-most s o h k)

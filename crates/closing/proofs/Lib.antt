@@ -1,5 +1,5 @@
 pub mod UniformLaws
-pub mod TableLaws
+pub mod BufferLaws
 pub mod SharingLaws
 pub mod StoreLaws
 pub mod ClosedLaws

@@ -2,9 +2,9 @@
 #![tactic(auto)]
 
 mod applying;
-mod buffer;
+mod grants;
+mod rows;
 mod sharing;
-mod tables;
 
 ghost use Rattle.std.specs.Prelude.{◌≡◌, not, ◌&&◌, leb};
 ghost use Rattle.base.specs.Refused.{number_in, answer_of};
@@ -16,6 +16,7 @@ use base::Granted;
 use base::limits::{GRANTS_WORDS, MOST_PAIRS};
 use base::refusals::Refusal;
 use base::stages::Stage;
+use grants::Closing;
 
 // Close: shares each intertie's unassigned kW out over what is pending there, in stages 2 and 3, and
 // raises the stage. Word h·I + i of the grants buffer gets the kW of holder h on intertie i.
@@ -24,14 +25,15 @@ pub fn close(state: &mut [u32], grants: &mut [u32]) -> Result<Granted, Refusal>
         (answer_of result ≡ done.answer) × (state.new ≡ done.state) × (grants.new ≡ done.grants) }
 {
     check_close(state, grants)?;
-    let mut granted = [0u64; MOST_PAIRS];
-    let answer = sharing::share_out_pending(state, &mut granted);
-    buffer::write_grants(state, &granted, grants);
-    applying::apply(state, &granted);
-    Ok(Granted {
-        kw: answer.kw,
-        passes: answer.passes,
-    })
+    let mut table = [0u64; MOST_PAIRS];
+    let granted = sharing::share_out_pending(state, &mut table)?;
+    let closing = Closing {
+        state,
+        table: &table,
+    };
+    closing.write_grants(grants);
+    applying::apply(state, &table);
+    Ok(granted)
 }
 
 // The first refusal that applies to a closing.

@@ -1,25 +1,23 @@
 -- What the workers of a closing are handed and what they leave. A table of the pairs has a row of 48 numbers for each holder.
-use Rattle.std.specs.Prelude.{ℕ, zero, suc, ◌+◌, ◌-◌, ◌≤◌, ◌<◌, ◌≡◌, List, length, set}
+use Rattle.std.specs.Prelude.{ℕ, ◌-◌, ◌≤◌, ◌<◌, ◌≡◌, List, length}
 use Rattle.base.specs.Words.{at}
-use Rattle.base.specs.Limits.{most_holders, most_interties, most_pairs, most_kw}
+use Rattle.base.specs.Limits.{state_words, most_holders, most_interties, most_pairs, most_kw}
 use Rattle.base.specs.Stages.{second_requests_stage}
 use Rattle.intertie_shares.specs.Pairs.{at_pair}
 use Rattle.state.specs.Layout.{interties, holders, stage_of, unassigned_of, unplaced_of}
 use Rattle.state.specs.Orderly.{state_refusal}
 use Rattle.closing.specs.Close.{close_grant, granted_to, granted_on}
 
--- l with f c at place `from + c` for each c below n; the other places stay
-unfoldable pub fill_from : ℕ → ℕ → (ℕ → ℕ) → List ℕ → List ℕ
-fill_from from zero f l = l
-fill_from from (suc n) f l = set (fill_from from n f l) (from + n) (f n)
-
--- a state that refusals 5 to 7 let pass
+-- a state that refusals 5 to 7 let pass, with the sizes that follow
 pub record Closable (s : List ℕ) : Type 0 where
   pub fit : state_refusal s ≡ 0
+  pub long : state_words ≤ length s
+  pub few : interties s ≤ most_interties
+  pub low : holders s ≤ most_holders
   pub stage-most : stage_of s ≤ second_requests_stage
 
 -- the table of this closing's grants
-pub record Granted (s table : List ℕ) : Type 0 where
+pub record Grants (s table : List ℕ) : Type 0 where
   pub size : length table ≡ most_pairs
   pub pairs : (h i : ℕ) → h < holders s → i < interties s → at_pair table h i ≡ close_grant s h i
   pub small : (h i : ℕ) → h < holders s → i < interties s → at_pair table h i ≤ most_kw

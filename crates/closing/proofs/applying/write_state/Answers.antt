@@ -6,8 +6,8 @@ use Rattle.closing.proofs.applying.write_state.Goals as goal
 pub returns : goal.returns
 returns c =
     let a = c.args in
-    let o = refusal-none _ c.requires.0.fit in
-    state-is a.state.now a.unassigned.now a.unplaced.now a.table.now _ _ _ _ _ _ _ _ o.0 o.1 c.requires.1 c.requires.2
+    let p = c.requires in
+    state-is a.state.now a.unassigned.now a.unplaced.now a.table.now _ _ _ _ _ _ _ _ p.0.long (refusal-none _ p.0.fit).1 p.1 p.2
     c.intertie_count-interties.ensures
     c.holder_count-holders.ensures
     c.stage-stage.ensures
