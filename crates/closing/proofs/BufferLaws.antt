@@ -2,16 +2,16 @@
 use Prim.Native.Nat.{ℕ, ◌+◌, ◌*◌, ◌/◌, ◌%◌, ◌≤◌, ◌<◌}
 use mathlib.Core.Path.{◌≡◌, refl, sym, ap, ◌∙◌}
 use mathlib.Core.List.{List}
-use native.Mathlib.Nat.{add-zero, zero-mul, suc-mul, mul_comm, mul-le-mul, mul-add-div_right, mul-add-mod_self_right, div-eq_of_lt, mod-eq_of_lt}
+use native.Mathlib.Nat.{add-zero, zero-mul, suc-mul, mul-le-mul, mul-add-div_right, mul-add-mod_self_right, div-eq_of_lt, mod-eq_of_lt}
 use native.Mathlib.Numerals.{add-one}
 use native.Mathlib.Omega.{arith}
 use lib.ListN.{length, set, length-set}
-use Rattle.base.specs.Words.{at, fill}
+use Rattle.base.specs.Words.{fill}
 use Rattle.base.proofs.WordLaws.{fill-zero, fill-turn}
 use Rattle.state.specs.Layout.{interties, holders}
 use Rattle.intertie_shares.specs.Pairs.{at_pair}
 use Rattle.closing.specs.Close.{close_grant, close_grants}
-use Rattle.closing.specs.Workers.Work.{Closable, Grants}
+use Rattle.closing.specs.Workers.Work.{Grants}
 
 -- the place h·I + i tells its holder and its intertie
 holder-of : (I h i : ℕ) → i < I → (h * I + i) / I ≡ h

@@ -44,7 +44,8 @@ impl Closing<'_> {
     {
         let holders = state::holder_count(self.state) as usize;
         rows::read_rows(self.state, layout::UNASSIGNED, row);
-        rows::take_off_holders(self.table, holders, row);
+        let (rows, _) = self.table.as_chunks::<MOST_INTERTIES>();
+        vectors::take_off_each(&rows[..holders], row);
     }
 
     // Writes what each holder has unplaced, less its grants.

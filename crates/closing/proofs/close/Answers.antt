@@ -1,5 +1,4 @@
 -- `close` meets its contract: refused, or shared out, written into the grants buffer and carried into the state.
-use Rattle.base.proofs.Prelude.{sym, ap}
 use Rattle.std.proofs.lemmas.Result.{err_from_is_err_and}
 use Rattle.closing.proofs.ClosedLaws.{closable, is_refused, is_done}
 use Rattle.closing.proofs.close.Goals as goal

@@ -1,5 +1,5 @@
 use Rattle.base.proofs.Prelude.{arith, rules}
-use Rattle.closing.proofs.BufferLaws.{below-rows, writing-none, writing-row, writing-next, writing-rows, writing-all}
+use Rattle.closing.proofs.BufferLaws.{writing-none, writing-row, writing-next, writing-rows, writing-all}
 use Rattle.closing.proofs.grants.Closing.write_grants.Goals as goal
 
 pub loop-holder-init : goal.loop-holder-init
