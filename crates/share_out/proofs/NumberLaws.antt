@@ -83,3 +83,6 @@ by-lists pool claims weights size p e f =
       le-ltb 20000000 pool p,
       all_to-both (length claims) (λ i. leb (at claims i) 20480000000) (λ i. leb (at weights i) 100000000),
     )
+
+-- what `unfit_numbers` is decided by, where bits don't tell
+pub ruleset numbers = (pool-over, by-lists)

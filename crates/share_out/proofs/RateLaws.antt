@@ -52,3 +52,6 @@ portion-by-rate left weight all rate r same =
     (low 274877906944 left weight all rate kw (omega arith) pos r.rated below)
     (high 274877906944 left weight all rate kw (omega arith) pos r.rated w above)))
     (eq-zero-or-pos weight)
+
+-- what `portion` is decided by
+pub ruleset by_rate = (portion-by-rate)

@@ -42,6 +42,7 @@ fn claim_bits(claims: &[u64]) -> u64
 }
 
 // The bits of a weight and of the weight raised so that one in range stays below 2 to the power 27.
+#[tactic(auto, unfolding(crate::specs::Workers::Fit::raised))]
 fn raised(weight: u64) -> u64
     ensures { result ≡ raised weight }
 {
@@ -66,6 +67,7 @@ fn surely_in_range(claims: u64, weights: u64) -> bool
 
 // Refusal 9: whether the pool, a claim or a weight is out of its range. Most lists are told by their bits alone. (Claims and
 // weights stay two lists, as C lends them: what is known of both differs from worker to worker, and stands in its record.)
+#[tactic(auto, using(crate::proofs::NumberLaws::numbers))]
 fn unfit_numbers(pool: u64, claims: &[u64], weights: &[u64]) -> bool
     requires { length weights.now ≡ length claims.now }
     ensures { result ≡ unfit_numbers pool claims.now weights.now }
@@ -111,6 +113,7 @@ fn rate_of(left: u64, all: u64) -> u64
 
 // left × weight / all rounded down, by the rate: the exact number of parts is at least weight × rate and at most
 // `weight` more, so a division is needed only where a whole kW lies between the two.
+#[tactic(auto, using(crate::proofs::RateLaws::by_rate))]
 fn portion(left: u64, weight: u64, all: u64, rate: u64) -> u64
     requires { Rated left weight all rate }
     ensures { result ≡ left * weight / all }

@@ -174,3 +174,6 @@ module _ (I H : ℕ) (keys kws : List ℕ) (even : length kws ≡ length keys) w
   sheet-kw few k inside small =
       let there : at words (3 + (length keys + k)) ≡ at kws k = past-header (length keys + k) ∙ get_or-append-add keys kws k 0 in
       read_back (3 + (length keys + k)) (12 + 4 * count s + 4 * k) (omega (arith, sheet-count few)) (omega arith) (rw there small) ∙ there
+
+-- why `write_sheet` writes nothing
+pub ruleset unwritten = (too_many, uneven, no_room)

@@ -164,3 +164,9 @@ module _ (s : List ℕ) (begin : Enumerate (List Record)) (b : Begun s begin) wh
     pub all-placed : PlacedSteps now None after → length had ≡ count s
     all-placed step =
         sym length-had ∙ all-read s b.passes (enumerate_source begin) (records-had had) (enumerate_source now) b.records (places-had begin now had by).0 step.0.0
+
+-- what `read_at` gives, by cases
+pub ruleset reading = (of-many, of_other, of-past, of-next)
+
+-- what `records` begins with
+pub ruleset first = (left-first)

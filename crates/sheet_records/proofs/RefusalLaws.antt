@@ -68,3 +68,6 @@ sized s e =
       some-holders = leb-true 1 (holders s) h.0;
       few-holders = leb-true (holders s) 32 h.1;
     }
+
+-- refusal 1, test by test
+pub ruleset lengths = (short-is-bad, many-is-bad, length-decides)

@@ -17,6 +17,7 @@ pub struct Record {
 }
 
 // The record at a place of the bytes of a sheet of `count` records, or none past the last; bytes of another length have none.
+#[tactic(auto, using(crate::proofs::ReadingLaws::reading))]
 pub fn read_at(sheet: &[u8], count: usize, place: usize) -> Option<Record>
     ensures { result ≡ read_of sheet.now count place }
 {
@@ -56,6 +57,7 @@ impl<'a> Model for Reader<'a> {
 }
 
 // The records of a sheet from the first on. A sheet that refusal 1 refuses has none.
+#[tactic(auto, using(crate::proofs::ReadingLaws::first))]
 pub fn records<'a>(sheet: &'a [u8]) -> Reader<'a>
     ensures { result ≡ records_of sheet.now }
 {

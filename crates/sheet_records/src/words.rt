@@ -21,6 +21,7 @@ pub(crate) const HOLDERS_AT: usize = 4;
 pub(crate) const COUNT_AT: usize = 8;
 
 // The little-endian word from a byte on.
+#[tactic(auto, unfolding(crate::specs::Sheet::word_at))]
 pub(crate) fn word(sheet: &[u8], from: usize) -> u32
     requires { from + word_size ≤ length sheet.now }
     ensures { result ≡ word_at sheet.now from }
@@ -34,6 +35,7 @@ pub(crate) fn word(sheet: &[u8], from: usize) -> u32
 }
 
 // Refusal 1: under 12 bytes, K over 1,024, or a length that is not 12 + 8·K. K is tested before 12 + 8·K is formed.
+#[tactic(auto, using(crate::proofs::RefusalLaws::lengths))]
 pub fn bad_length(sheet: &[u8]) -> bool
     ensures { result ≡ bad_length sheet.now }
 {

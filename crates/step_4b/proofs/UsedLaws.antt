@@ -36,3 +36,6 @@ module _ (kw : List ℕ) (ranks : ℕ) where
               | no past ↦ u.idle r (omega arith) m
             ];
       }
+
+-- what `sixteen_zeros` is decided by
+pub ruleset zeros = (zeros-bits)

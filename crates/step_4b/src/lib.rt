@@ -50,6 +50,7 @@ fn keep_rank(kw: u64, intertie: usize, allowance: u64, cover: &mut [u64], kept: 
 }
 
 // Whether sixteen numbers, from one of them on, are all 0.
+#[tactic(auto, using(crate::proofs::UsedLaws::zeros))]
 fn sixteen_zeros(numbers: &[u64], from: usize) -> bool
     requires { from + 16 ≤ length numbers.now }
     ensures { result ≡ true → Zeros numbers.now from 16 }

@@ -112,3 +112,6 @@ module _ (total : ℕ) (held loads x : List ℕ) (a : Accepted total held loads)
                   (λ j k. pick-by (λ y. y ≤ 100000000) (eqb (at x j) eligible) (at loads j) 0 (λ t. a.load-shares j k) (λ f. omega arith)),
             );
       }
+
+-- what `fit_numbers` is decided by
+pub ruleset fits = (by-lists)

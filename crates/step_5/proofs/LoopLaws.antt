@@ -178,3 +178,6 @@ quota-is total held loads x i gross all a e l g v =
       divided = λ z. rw v (divided total held loads x end i l z);
       covered = λ z. rw (g, v) (covered total held loads x end i l z);
     }
+
+-- the turns of `sum_marked`
+pub ruleset summing = (summed-none, summed-next)

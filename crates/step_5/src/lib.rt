@@ -28,6 +28,7 @@ fn fit_lengths(held: usize, loads: usize, shares: usize) -> bool
 }
 
 // Whether T and every holder's numbers are within their ranges.
+#[tactic(auto, using(crate::proofs::FitLaws::fits))]
 fn fit_numbers(total: u64, held: &[u64], loads: &[u64]) -> bool
     requires { length loads.now ≡ length held.now }
     ensures { result ≡ fit_numbers total held.now loads.now }
@@ -44,6 +45,7 @@ fn if_marked(own: u8, mark: u8, number: u64) -> u64
 }
 
 // What the holders with this mark have together.
+#[tactic(auto, using(crate::proofs::LoopLaws::summing))]
 fn sum_marked(mark: u8, marks: &[u8], numbers: &[u64]) -> u64
     requires { Addends marks.now numbers.now }
     ensures { let numbers = numbers.now in result ≡ together (length numbers) mark marks.now numbers }
@@ -56,6 +58,7 @@ fn sum_marked(mark: u8, marks: &[u8], numbers: &[u64]) -> u64
 }
 
 // G, what the excluded leave of T.
+#[tactic(auto, unfolding(crate::specs::Round::gross_remaining))]
 fn gross_remaining(total: u64, held: &[u64], marks: &[u8]) -> u64
     requires { Addends marks.now held.now }
     ensures { result ≡ gross_remaining total held.now marks.now }

