@@ -1,6 +1,6 @@
 -- What the tests of refusals 1 and 2 say in plain facts.
 use Prim.Native.Nat.{ℕ, ◌+◌, ◌*◌, ◌≤◌, ◌<◌}
-use mathlib.Core.Path.{◌≡◌, refl, sym, ◌∙◌}
+use mathlib.Core.Path.{◌≡◌, refl}
 use mathlib.Core.Bool.{Bool, true, false, ◌||◌, not, true≢false}
 use mathlib.Core.List.{List}
 use native.Mathlib.Omega.{arith}
@@ -44,10 +44,6 @@ pub long-enough : (s : List ℕ) (n x : ℕ) → bad_length s ≡ false → n �
 long-enough s n x e m =
     let long : 12 ≤ length s = omega (arith, whole s (count s) e refl) in
     rw (le-ltb (length s) 12 long) at m
-
--- the same, with n for the count as a short sheet has it too
-pub counted : (s : List ℕ) (n : ℕ) → bad_length s ≡ false → n ≡ pick (ltb (length s) 12) 0 (count s) → Whole s n
-counted s n e m = whole s n e (long-enough s n (count s) e m)
 
 -- the sizes of a sheet that refusal 2 lets pass
 pub record Sized (s : List ℕ) : Type 0 where
