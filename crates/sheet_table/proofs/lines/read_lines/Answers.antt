@@ -54,7 +54,7 @@ pub loop-place-preserved : goal.loop-place-preserved
 loop-place-preserved c =
     let t = c.loop-place.invariant in
     let step = rw c.in-Some.is at c.next.ensures.steps in (
-      t.0,
+      omega (arith, t.0),
       t.1,
       t.2,
       omega (arith, t.3, step.2, ap length step.0),
