@@ -134,7 +134,8 @@ fn weight_after(part: u64, unmet: u64, weight: u64) -> u64
 }
 
 // Serves holders in turn, lowest number first, until the pool is empty: each gets what it wants, by its unmet claim and the
-// weight that it brings into W. Hands back the kW given.
+// weight that it brings into W. Hands back the kW given. (Not inlined, for the speed of the loops over passes and holders.)
+#[inline(never)]
 fn serve_in_turn<F: Fn(u64, u64) -> u64>(
     left: u64,
     want: F,
