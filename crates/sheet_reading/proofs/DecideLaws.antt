@@ -25,7 +25,8 @@ use Rattle.base.specs.Choice.{pick}
 use Rattle.base.proofs.RefusedLaws.{numbered}
 use Rattle.std.proofs.Common.{◌||◌}
 use Rattle.sheet_reading.specs.Workers.Deciding.{sizes_refusal, table_rules_hold, table_existing_on, table_limit_holds, Modest}
-use Rattle.base.proofs.ChoiceLaws.{le-or-lt}
+use Rattle.base.proofs.ChoiceLaws.{le-or-lt, test_by, both}
+use borrow.Author.Tests.{leb-true, le-leb}
 use Rattle.base.proofs.SumLaws.{all_to-rows}
 use Rattle.sheet_reading.proofs.TableLaws.{at-limit, at-load-share, at-new-use, limit-at, outside-at, existing-at}
 use Rattle.sheet_records.proofs.RefusalLaws.{Sized, sized, long-enough, whole}
@@ -45,27 +46,37 @@ ranks-row counts H =
     (λ h _. all_to-same 256 (λ r. leb (at counts (4288 + (256 * h + r))) 1) (λ r. leb (at counts (new_use_slot h r)) 1)
     (λ r _. ap (λ (j : ℕ). leb (at counts j) 1) (sym (add_assoc 4288 (256 * h) r))))
 
+-- from 1 to 1 is 1, and from 0 to 1 is at most 1
+once : (n : ℕ) → within 1 1 n ≡ eqb n 1
+once n = sym (test_by n 1 (within 1 1 n) (n ≡ 1) (λ t. let p = (both (leb 1 n) (leb n 1)).0 t in antisym (leb-true 1 n p.0) (leb-true n 1 p.1), λ e. rw e refl) (λ e. e, λ e. e))
+  where
+    antisym : 1 ≤ n → n ≤ 1 → n ≡ 1
+    antisym a b = omega arith
+
+at-most-once : (n : ℕ) → within 0 1 n ≡ leb n 1
+at-most-once n = simp (le-leb 0 n zero-le)
+
 -- a test of each number of a part
-part-all : (p : ℕ → Bool) (l : List ℕ) (from n m : ℕ) → n ≡ m → from + m ≤ length l
-    → all_to (length (take n (drop from l))) (λ i. p (at (take n (drop from l)) i)) ≡ all_to m (λ i. p (at l (from + i)))
-part-all p l from n m e room =
+part-all : (q p : ℕ → Bool) → ((n : ℕ) → q n ≡ p n) → (l : List ℕ) (from n m : ℕ) → n ≡ m → from + m ≤ length l
+    → all_to (length (take n (drop from l))) (λ i. q (at (take n (drop from l)) i)) ≡ all_to m (λ i. p (at l (from + i)))
+part-all q p same l from n m e room =
     let size : length (take n (drop from l)) ≡ m = length-take-le n (drop from l) (omega (arith, length-drop from l)) ∙ e in
-    ap (λ k. all_to k (λ i. p (at (take n (drop from l)) i))) size
-    ∙ all_to-same m (λ i. p (at (take n (drop from l)) i)) (λ i. p (at l (from + i)))
-    (λ i h. ap p (get_or-take n (drop from l) i 0 (omega arith) ∙ get_or-drop from l i 0))
+    ap (λ k. all_to k (λ i. q (at (take n (drop from l)) i))) size
+    ∙ all_to-same m (λ i. q (at (take n (drop from l)) i)) (λ i. p (at l (from + i)))
+    (λ i h. same _ ∙ ap p (get_or-take n (drop from l) i 0 (omega arith) ∙ get_or-drop from l i 0))
 
 -- the tests of parts of a table of counts
 module _ (counts : List ℕ) (H I : ℕ) (few : I ≤ 64) (low : H ≤ 32) (full : length counts ≡ slots) where
   pub rules-by-parts : (stand limits shares ranks : Bool) (l r : ℕ)
-      → limits ≡ all_to (length (take I counts)) (λ i. eqb (at (take I counts) i) 1)
-      → shares ≡ all_to (length (take l (drop 128 counts))) (λ i. leb (at (take l (drop 128 counts)) i) 1)
-      → ranks ≡ all_to (length (take r (drop 4288 counts))) (λ i. leb (at (take r (drop 4288 counts)) i) 1)
+      → limits ≡ all_to (length (take I counts)) (λ i. within 1 1 (at (take I counts) i))
+      → shares ≡ all_to (length (take l (drop 128 counts))) (λ i. within 0 1 (at (take l (drop 128 counts)) i))
+      → ranks ≡ all_to (length (take r (drop 4288 counts))) (λ i. within 0 1 (at (take r (drop 4288 counts)) i))
       → l ≡ H → r ≡ 256 * H → stand && limits && shares && ranks ≡ table_rules_hold stand counts H I
   rules-by-parts stand limits shares ranks l r a b c el er =
-      let first = a ∙ part-all (λ x. eqb x 1) counts 0 I I refl (omega arith)
+      let first = a ∙ part-all (within 1 1) (λ x. eqb x 1) once counts 0 I I refl (omega arith)
       ∙ all_to-same I (λ i. eqb (at counts (0 + i)) 1) (λ i. eqb (at counts i) 1) (λ i _. let same : 0 + i ≡ i = omega arith in ap (λ (j : ℕ). eqb (at counts j) 1) same) in
-      let second = b ∙ part-all (λ x. leb x 1) counts 128 l H el (omega arith) in
-      let third = c ∙ part-all (λ x. leb x 1) counts 4288 r (256 * H) er (omega arith) ∙ ranks-row counts H in
+      let second = b ∙ part-all (within 0 1) (λ x. leb x 1) at-most-once counts 128 l H el (omega arith) in
+      let third = c ∙ part-all (within 0 1) (λ x. leb x 1) at-most-once counts 4288 r (256 * H) er (omega arith) ∙ ranks-row counts H in
       rw (first, second, third) refl
 
 -- the counts and sums of the tables are those of the rules

@@ -14,9 +14,16 @@ use Rattle.sheet_keys.specs.Key.{intertie_of}
 use Rattle.sheet_records.specs.Sheet.{interties, holders, count, key_at, kw_at, sum_over}
 use Rattle.sheet_records.specs.Refusal.{record_stands}
 use Rattle.sheet_reading.specs.Tables.{slot_of, slots, table}
-use Rattle.sheet_reading.specs.Workers.Adding.{SlotsOf, add}
+use Rattle.sheet_reading.specs.Workers.Adding.{SlotsOf}
 use Rattle.sheet_records.specs.declared.reader.Record.{Record}
-use Rattle.sheet_records.proofs.ReadingLaws.{RecordRead, word_below}
+use Rattle.sheet_records.proofs.ReadingLaws.{RecordRead, word_below, PlacedSteps, begun, places-fit, placed-read, all-placed, one-more}
+use Rattle.sheet_records.proofs.RefusalLaws.{whole}
+use Rattle.sheet_records.specs.Reading.{records_of}
+use Rattle.sheet_records.specs.Refusal.{bad_length}
+use Rattle.std.proofs.Common.{Some, None, false, ◌++◌, ◌∷◌, []}
+use Rattle.std.specs.Iterator.{Yields}
+use Rattle.std.specs.Iterator.Adapters.{enumerate_source, enumerate_count}
+use Rattle.std.specs.declared.iter.Enumerate.{Enumerate}
 use Rattle.base.proofs.SumLaws.{all_more}
 use Rattle.sheet_reading.proofs.TallyLaws.{zeros, tally, tally-bound, tally-all}
 use Rattle.sheet_reading.proofs.SlotLaws.{slot-of-below}
@@ -25,8 +32,12 @@ use Rattle.sheet_reading.proofs.SlotLaws.{slot-of-below}
 abbrev pub stands_at : List ℕ → ℕ → Bool
 stands_at s k = record_stands (interties s) (holders s) (key_at s k) (kw_at s k)
 
+-- its slot, and its intertie
 abbrev pub slot_at : List ℕ → ℕ → ℕ
 slot_at s k = slot_of (key_at s k)
+
+abbrev pub tie_at : List ℕ → ℕ → ℕ
+tie_at s k = intertie_of (key_at s k)
 
 -- one record more
 module _ (s : List ℕ) (n m : ℕ) (r : Record) (read : RecordRead s n r) (next : m ≡ n + 1) where
@@ -44,9 +55,9 @@ pub slotted-none : (s found : List ℕ) → found ≡ fill 0 (slot_at s) found
 unfolding fill
 slotted-none s found = refl
 
-pub slotted-all : (s found₀ found : List ℕ) (n : ℕ) → found ≡ fill n (slot_at s) found₀ → n ≡ count s → count s ≤ length found₀ → SlotsOf s found
-slotted-all s found₀ found n p all room k l =
-    ap (λ (x : List ℕ). at x k) p ∙ at_fill n (slot_at s) found₀ k (omega arith) (omega arith)
+pub slotted-all : (s found₀ found : List ℕ) (n : ℕ) → found ≡ fill n (slot_at s) found₀ → n ≡ count s → bad_length s ≡ false → length found₀ ≡ 1024 → SlotsOf s found
+slotted-all s found₀ found n p all passes room k l =
+    ap (λ (x : List ℕ). at x k) p ∙ at_fill n (slot_at s) found₀ k (omega arith) (omega (arith, (whole s (count s) passes refl).few))
 
 -- a table after n records were added to their slots
 abbrev pub added : List ℕ → (ℕ → ℕ) → ℕ → List ℕ
@@ -65,29 +76,64 @@ added-all s amount l n t e = t ∙ ap (λ (x : ℕ). added s amount x) e ∙ tal
 below_64 : (key : ℕ) → intertie_of key ≤ 63
 below_64 key = omega arith
 
--- the slot that was found is that of the record that is read
-module _ (s found : List ℕ) (all : SlotsOf s found) (n : ℕ) (r : Record) (read : RecordRead s n r) where
-  pub slot-below : at found n < slots
-  slot-below = rw (all n read.inside) (slot-of-below (key_at s n))
+-- a loop over the records of a sheet and their places, by what its iterators say
+module _ (s : List ℕ) (begin items : Enumerate (List Record)) (all : List Record)
+    (r : enumerate_source items ≡ all) (f : all ≡ records_of s) (n : enumerate_count items ≡ 0) (e : begin ≡ items) (passes : bad_length s ≡ false) where
+  pub places-counted : enumerate_count begin + length (enumerate_source begin) < 2 ^ 64
+  places-counted = places-fit s begin (begun s begin items all passes e r f n)
 
-  module _ (amount : ℕ → ℕ) (l : List ℕ) (p : l ≡ added s amount n) where
-    room : (b : ℕ) → ((k : ℕ) → amount k ≤ b) → at l (at found n) ≤ n * b
-    room b small = rw p (tally-bound (slot_at s) amount n b slots (at found n) small slot-below)
+  pub all-walked : (now after : Enumerate (List Record)) (had : List (ℕ × Record)) → Yields PlacedSteps begin had now → PlacedSteps now None after → length had ≡ count s
+  all-walked = all-placed s begin (begun s begin items all passes e r f n)
 
-    pub added_more : (x m : ℕ) (l' : List ℕ) → x ≡ amount n → l' ≡ add l (at found n) x → m ≡ n + 1 → l' ≡ added s amount m
-    unfolding tally
-    added_more x m l' ex el em =
-        let e : m ≡ suc n = em ∙ add-one n in
-        rw (e, el, all n read.inside, ex, p) refl
+-- the next record
+module _ (s : List ℕ) (begin items now after : Enumerate (List Record)) (all : List Record) (had : List (ℕ × Record)) (place : ℕ) (x : Record)
+    (step : PlacedSteps now (Some (place, x)) after) (by : Yields PlacedSteps begin had now) (r : enumerate_source items ≡ all) (f : all ≡ records_of s)
+    (n : enumerate_count items ≡ 0) (e : begin ≡ items) (passes : bad_length s ≡ false) where
+  here : RecordRead s (length had) x × (place ≡ length had)
+  here = placed-read s begin (begun s begin items all passes e r f n) now after had by (place, x) step
 
-  -- each table has room for it
-  pub count_room : (l : List ℕ) → l ≡ added s (λ k. 1) n → count s ≤ 1024 → at l (at found n) + 1 < 2 ^ 16
-  count_room l p few = omega (arith, read.inside, room (λ k. 1) l p 1 (λ k. le_refl 1))
+  pub place-below : place < 1024
+  place-below = omega (arith, here.1, here.0.inside, (whole s (count s) passes refl).few)
 
-  pub kw-room : (l : List ℕ) → l ≡ added s (kw_at s) n → count s ≤ 1024 → ((i : ℕ) → at s i < 256) → at l (at found n) + r.kw < 2 ^ 64
-  kw-room l p few bytes =
-      omega (arith, read.inside, read.kw-is, room (kw_at s) l p 4_294_967_295 (λ k. word_below s (12 + 4 * count s + 4 * k) bytes), word_below s (12 + 4 * count s + 4 * n) bytes)
+  pub slotted-next : (found₀ found : List ℕ) (j : ℕ) → found ≡ fill (length had) (slot_at s) found₀ → j ≡ slot_of x.key
+      → set found place j ≡ fill (length (had ++ (place, x) ∷ [])) (slot_at s) found₀
+  slotted-next found₀ found j p ej = slotted-more s _ _ x here.0 (one-more had (place, x)) found₀ found place j here.1 p ej
 
-  pub tie-room : (l : List ℕ) → l ≡ added s (λ k. intertie_of (key_at s k)) n → count s ≤ 1024 → at l (at found n) + intertie_of r.key < 2 ^ 16
-  tie-room l p few =
-      omega (arith, read.inside, ap intertie_of read.key-is, room (λ k. intertie_of (key_at s k)) l p 63 (λ k. below_64 (key_at s k)), below_64 (key_at s n))
+  -- its slot, which was found
+  module _ (found : List ℕ) (slotted : SlotsOf s found) where
+    pub slot-below : at found place < slots
+    slot-below = rw (here.1, slotted (length had) here.0.inside) (slot-of-below (key_at s (length had)))
+
+    module _ (amount : ℕ → ℕ) (l : List ℕ) (p : l ≡ added s amount (length had)) where
+      room : (b : ℕ) → ((k : ℕ) → amount k ≤ b) → at l (at found place) ≤ length had * b
+      room b small = rw p (tally-bound (slot_at s) amount (length had) b slots (at found place) small slot-below)
+
+      added_more : (y : ℕ) → y ≡ amount (length had) → set l (at found place) (at l (at found place) + y) ≡ added s amount (length (had ++ (place, x) ∷ []))
+      unfolding tally
+      added_more y ey =
+          let m : length (had ++ (place, x) ∷ []) ≡ suc (length had) = one-more had (place, x) ∙ add-one (length had) in
+          rw (m, here.1, slotted (length had) here.0.inside, ey, p) refl
+
+    -- the records, the kilowatts and the interties of each slot: there is room for one more, and it is added
+    module _ (l : List ℕ) (p : l ≡ added s (λ k. 1) (length had)) where
+      pub count_room : at l (at found place) + 1 < 2 ^ 16
+      count_room = omega (arith, here.0.inside, (whole s (count s) passes refl).few, room (λ k. 1) l p 1 (λ k. le_refl 1))
+
+      pub counted_more : set l (at found place) (at l (at found place) + 1) ≡ added s (λ k. 1) (length (had ++ (place, x) ∷ []))
+      counted_more = added_more (λ k. 1) l p 1 refl
+
+    module _ (l : List ℕ) (p : l ≡ added s (kw_at s) (length had)) where
+      pub kw-room : ((i : ℕ) → at s i < 256) → at l (at found place) + x.kw < 2 ^ 64
+      kw-room bytes =
+          omega (arith, here.0.inside, here.0.kw-is, (whole s (count s) passes refl).few, room (kw_at s) l p 4_294_967_295 (λ k. word_below s (12 + 4 * count s + 4 * k) bytes), word_below s (12 + 4 * count s + 4 * length had) bytes)
+
+      pub summed_more : set l (at found place) (at l (at found place) + x.kw) ≡ added s (kw_at s) (length (had ++ (place, x) ∷ []))
+      summed_more = added_more (kw_at s) l p x.kw here.0.kw-is
+
+    module _ (l : List ℕ) (p : l ≡ added s (tie_at s) (length had)) (tie : ℕ) (t : tie ≡ intertie_of x.key) where
+      pub tie-room : at l (at found place) + tie < 2 ^ 16
+      tie-room =
+          omega (arith, here.0.inside, t, below_64 x.key, (whole s (count s) passes refl).few, room (tie_at s) l p 63 (λ k. below_64 (key_at s k)))
+
+      pub placed_more : set l (at found place) (at l (at found place) + tie) ≡ added s (tie_at s) (length (had ++ (place, x) ∷ []))
+      placed_more = added_more (tie_at s) l p tie (t ∙ ap intertie_of here.0.key-is)

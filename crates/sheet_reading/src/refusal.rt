@@ -1,5 +1,5 @@
 // Refusals 1 to 4 of a sheet, lowest first, and the tables of the sheet.
-ghost use Rattle.std.specs.Prelude.{◌≡◌, ◌&&◌, not, ◌≤◌, ◌<◌, leb, eqb, length, replicate};
+ghost use Rattle.std.specs.Prelude.{◌≡◌, ◌&&◌, not, ◌≤◌, ◌<◌, length, replicate};
 ghost use Rattle.base.specs.Limits.{most_interties, most_holders};
 ghost use Rattle.base.specs.Sums.{all_to};
 ghost use Rattle.base.specs.Words.{at};
@@ -41,24 +41,14 @@ fn sizes_stand(sheet: &[u8]) -> Result<(), Refusal>
     Ok(())
 }
 
-// Whether each of these slots counts one record. All of them are looked at, so that no branch stands between them.
-fn each_once(counts: &[u16]) -> bool
-    ensures { result ≡ all_to (length counts.now) (λ i. eqb (at counts.now i) 1) }
+// Whether each of these slots counts from LEAST to MOST records. All of them are looked at, so that no branch stands between
+// them: `all` would have one.
+fn counts_within<const LEAST: u16, const MOST: u16>(counts: &[u16]) -> bool
+    ensures { result ≡ all_to (length counts.now) (λ i. within LEAST MOST (at counts.now i)) }
 {
     let mut hold = true;
     for count in counts {
-        hold = hold & (*count == 1);
-    }
-    hold
-}
-
-// Whether none of them counts two. Again all are looked at.
-fn none_twice(counts: &[u16]) -> bool
-    ensures { result ≡ all_to (length counts.now) (λ i. leb (at counts.now i) 1) }
-{
-    let mut hold = true;
-    for count in counts {
-        hold = hold & (*count <= 1);
+        hold = hold & (LEAST..=MOST).contains(count);
     }
     hold
 }
@@ -83,7 +73,7 @@ fn limit_holds(kw: &[u64; SLOTS], holders: usize, intertie: usize) -> bool
     kw[tables::OUTSIDE + intertie] + existing_on(kw, holders, intertie) <= kw[intertie]
 }
 
-// Whether they fit on each intertie.
+// Whether they fit on each intertie. All interties are looked at, so that no branch stands between them.
 fn limits_hold(kw: &[u64; SLOTS], holders: usize, interties: usize) -> bool
     requires { (holders ≤ most_holders) × (interties ≤ key_interties) × Modest kw.now }
     ensures { result ≡ all_to interties (table_limit_holds kw.now holders) }
@@ -101,9 +91,11 @@ fn rules_hold(stand: bool, counts: &[u16; SLOTS], holders: usize, interties: usi
     ensures { result ≡ table_rules_hold stand counts.now holders interties }
 {
     stand
-        & each_once(&counts[..interties])
-        & none_twice(&counts[tables::LOAD_SHARES..tables::LOAD_SHARES + holders])
-        & none_twice(&counts[tables::NEW_USE..tables::NEW_USE + tables::HOLDER_RANKS * holders])
+        & counts_within::<1, 1>(&counts[..interties])
+        & counts_within::<0, 1>(&counts[tables::LOAD_SHARES..tables::LOAD_SHARES + holders])
+        & counts_within::<0, 1>(
+            &counts[tables::NEW_USE..tables::NEW_USE + tables::HOLDER_RANKS * holders],
+        )
 }
 
 // Refusals 3 and 4 of a sheet that 1 and 2 let pass, and its records in cleared tables. The slots of the records are at hand.

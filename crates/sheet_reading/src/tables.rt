@@ -1,13 +1,12 @@
 // The tables that the records fill. A record's slot goes by its kind, holder, intertie and rank, and is found for all of them
 // before the first is added. Records of no kind, and those of kinds 4 to 6 with a holder from 32 up, share the last slot.
-ghost use Rattle.std.specs.Prelude.{◌≡◌, false, ℕ, ◌+◌, ◌<◌, ◌^◌, length, replicate};
+ghost use Rattle.std.specs.Prelude.{◌≡◌, false, ℕ, ◌<◌, length, replicate};
 ghost use Rattle.base.specs.Choice.{pick};
-ghost use Rattle.base.specs.Words.{at};
 ghost use Rattle.base.specs.Limits.{most_records};
 ghost use Rattle.sheet_keys.specs.Key.{key_holders, key_interties, key_ranks};
 ghost use Rattle.sheet_records.specs.Refusal.{bad_length};
 ghost use Rattle.sheet_reading.specs.Tables.{slot, slot_of, slots, count_table, kw_table, intertie_table};
-ghost use Rattle.sheet_reading.specs.Workers.Adding.{add, SlotsOf};
+ghost use Rattle.sheet_reading.specs.Workers.Adding.{SlotsOf};
 
 use base::kinds::Kind;
 use base::limits;
@@ -126,17 +125,6 @@ pub(crate) fn find_slots(sheet: &[u8], found: &mut [u32; MOST_RECORDS])
     }
 }
 
-// Adds one record and its kilowatts at a slot.
-fn add_at(slot: u32, quantity: u32, counts: &mut [u16; SLOTS], kw: &mut [u64; SLOTS])
-    requires { (slot < slots) × (at counts.old slot + 1 < 2 ^ 16) × (at kw.old slot + quantity < 2 ^ 64) }
-    ensures { (counts.new ≡ add counts.old slot 1)
-        × (kw.new ≡ add kw.old slot quantity) }
-{
-    let place = slot as usize;
-    counts[place] += 1;
-    kw[place] += quantity as u64;
-}
-
 // Counts each record in cleared tables and adds its kilowatts, with its slot at hand.
 pub(crate) fn add_records(
     sheet: &[u8],
@@ -152,17 +140,10 @@ pub(crate) fn add_records(
         × (kw.new ≡ kw_table sheet.now) }
 {
     for (place, record) in reader::records(sheet).enumerate() {
-        add_at(found[place], record.kw, counts, kw);
+        let slot = found[place] as usize;
+        counts[slot] += 1;
+        kw[slot] += record.kw as u64;
     }
-}
-
-// Adds an intertie at a slot.
-fn place_at(slot: u32, intertie: u32, interties: &mut [u16; SLOTS])
-    requires { (slot < slots) × (at interties.old slot + intertie < 2 ^ 16) }
-    ensures { interties.new ≡ add interties.old slot intertie }
-{
-    let place = slot as usize;
-    interties[place] += intertie as u16;
 }
 
 // Adds the intertie of each record to a cleared table.
@@ -173,6 +154,6 @@ pub(crate) fn place_records(sheet: &[u8], found: &[u32; MOST_RECORDS], interties
     ensures { interties.new ≡ intertie_table sheet.now }
 {
     for (place, record) in reader::records(sheet).enumerate() {
-        place_at(found[place], key::intertie(record.key), interties);
+        interties[found[place] as usize] += key::intertie(record.key) as u16;
     }
 }

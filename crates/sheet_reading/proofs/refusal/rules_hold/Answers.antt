@@ -6,4 +6,4 @@ use Rattle.sheet_reading.proofs.refusal.rules_hold.Goals as goal
 pub returns : goal.returns
 returns c =
     rules-by-parts c.args.counts.now c.args.holders c.args.interties c.requires.1 c.requires.0 (search rules) _ _ _ _ _ _
-    c.each_once.ensures c.none_twice.ensures c.none_twice-2.ensures (omega arith) (omega arith)
+    c.counts_within.ensures c.counts_within-2.ensures c.counts_within-3.ensures (omega arith) (omega arith)

@@ -1,47 +1,46 @@
-use Rattle.base.proofs.Prelude.{refl, arith, rules}
-use mathlib.Core.Logic.{inl}
-use Rattle.sheet_records.proofs.RefusalLaws.{whole}
-use Rattle.sheet_records.proofs.ReadingLaws.{begun, places-fit, placed-read, all-placed, one-more}
-use Rattle.sheet_reading.proofs.PassLaws.{added-none, slot-below, count_room, kw-room, added_more, added-all}
+use Rattle.base.proofs.Prelude.{rules, arith}
+use Rattle.sheet_reading.proofs.PassLaws.{places-counted, place-below, slot-below, added-none, count_room, counted_more, kw-room, summed_more, all-walked, added-all}
 use Rattle.sheet_reading.proofs.tables.add_records.Goals as goal
 
 pub loop-place-init-derived : goal.loop-place-init-derived
-loop-place-init-derived c = ((tt, tt, inl (places-fit _ _ (begun _ _ _ _ c.requires.0 c.into_iter-place-iterator.ensures.into_iter_gives c.enumerate-place-items.ensures.source c.records.ensures c.enumerate-place-items.ensures.count))), tt)
+loop-place-init-derived c = search (rules, places-counted)
 
 pub bounds-found-place : goal.bounds-found-place
 bounds-found-place c =
-    let read = placed-read _ _ (begun _ _ _ _ c.requires.0 c.into_iter-place-iterator.ensures.into_iter_gives c.enumerate-place-items.ensures.source c.records.ensures c.enumerate-place-items.ensures.count) _ _ _ c.loop-place.yielded_by _ c.in-Some.ensures.steps in
-    omega (arith, read.1, read.0.inside, (whole _ _ c.requires.0 refl).few)
+    place-below _ _ _ _ _ _ _ _ _ c.in-Some.ensures.steps c.loop-place.yielded_by c.enumerate-place-items.ensures.source c.records.ensures c.enumerate-place-items.ensures.count c.into_iter-place-iterator.ensures.into_iter_gives c.requires.0
 
 pub offset_bounds-found-place : goal.offset_bounds-found-place
 offset_bounds-found-place c =
-    let read = placed-read _ _ (begun _ _ _ _ c.requires.0 c.into_iter-place-iterator.ensures.into_iter_gives c.enumerate-place-items.ensures.source c.records.ensures c.enumerate-place-items.ensures.count) _ _ _ c.loop-place.yielded_by _ c.in-Some.ensures.steps in
-    let few = (whole _ _ c.requires.0 refl).few in
-    search rules
+    omega (arith, place-below _ _ _ _ _ _ _ _ _ c.in-Some.ensures.steps c.loop-place.yielded_by c.enumerate-place-items.ensures.source c.records.ensures c.enumerate-place-items.ensures.count c.into_iter-place-iterator.ensures.into_iter_gives c.requires.0)
 
 pub loop-place-init : goal.loop-place-init
-loop-place-init c = (added-none _ _ _ c.requires.2, added-none _ _ _ c.requires.3)
+loop-place-init c = search (rules, added-none)
 
-pub add_at-requires : goal.add_at-requires
-add_at-requires c =
-    let read = placed-read _ _ (begun _ _ _ _ c.requires.0 c.into_iter-place-iterator.ensures.into_iter_gives c.enumerate-place-items.ensures.source c.records.ensures c.enumerate-place-items.ensures.count) _ _ _ c.loop-place.yielded_by _ c.in-Some.ensures.steps in
-    let few = (whole _ _ c.requires.0 refl).few in
-    let all = c.requires.1 in
-    rw read.1 (
-      slot-below _ _ all _ _ read.0,
-      count_room _ _ all _ _ read.0 _ c.loop-place.invariant.0 few,
-      kw-room _ _ all _ _ read.0 _ c.loop-place.invariant.1 few (λ i. (c.type_inv.sheet i).fits),
-    )
+pub bounds-counts-slot : goal.bounds-counts-slot
+bounds-counts-slot c =
+    slot-below _ _ _ _ _ _ _ _ _ c.in-Some.ensures.steps c.loop-place.yielded_by c.enumerate-place-items.ensures.source c.records.ensures c.enumerate-place-items.ensures.count c.into_iter-place-iterator.ensures.into_iter_gives c.requires.0 _ c.requires.1
+
+pub overflow_add-counts : goal.overflow_add-counts
+overflow_add-counts c = search (rules, count_room, c.in-Some.ensures.steps)
+
+pub bounds-counts-slot-in-loop-place : goal.bounds-counts-slot-in-loop-place
+bounds-counts-slot-in-loop-place c =
+    slot-below _ _ _ _ _ _ _ _ _ c.in-Some.ensures.steps c.loop-place.yielded_by c.enumerate-place-items.ensures.source c.records.ensures c.enumerate-place-items.ensures.count c.into_iter-place-iterator.ensures.into_iter_gives c.requires.0 _ c.requires.1
+
+pub bounds-kw-slot : goal.bounds-kw-slot
+bounds-kw-slot c =
+    slot-below _ _ _ _ _ _ _ _ _ c.in-Some.ensures.steps c.loop-place.yielded_by c.enumerate-place-items.ensures.source c.records.ensures c.enumerate-place-items.ensures.count c.into_iter-place-iterator.ensures.into_iter_gives c.requires.0 _ c.requires.1
+
+pub overflow_add-kw : goal.overflow_add-kw
+overflow_add-kw c =
+    omega (arith, kw-room _ _ _ _ _ _ _ _ _ c.in-Some.ensures.steps c.loop-place.yielded_by c.enumerate-place-items.ensures.source c.records.ensures c.enumerate-place-items.ensures.count c.into_iter-place-iterator.ensures.into_iter_gives c.requires.0 _ c.requires.1 _ c.loop-place.invariant.1 (λ i. (c.type_inv.sheet i).fits))
+
+pub bounds-kw-slot-in-loop-place : goal.bounds-kw-slot-in-loop-place
+bounds-kw-slot-in-loop-place c =
+    slot-below _ _ _ _ _ _ _ _ _ c.in-Some.ensures.steps c.loop-place.yielded_by c.enumerate-place-items.ensures.source c.records.ensures c.enumerate-place-items.ensures.count c.into_iter-place-iterator.ensures.into_iter_gives c.requires.0 _ c.requires.1
 
 pub loop-place-preserved : goal.loop-place-preserved
-loop-place-preserved c =
-    let read = placed-read _ _ (begun _ _ _ _ c.requires.0 c.into_iter-place-iterator.ensures.into_iter_gives c.enumerate-place-items.ensures.source c.records.ensures c.enumerate-place-items.ensures.count) _ _ _ c.loop-place.yielded_by _ c.in-Some.ensures.steps in
-    let all = c.requires.1 in (
-      added_more _ _ all _ _ read.0 _ _ c.loop-place.invariant.0 _ _ _ refl (rw read.1 at c.add_at.ensures.0) (one-more _ _),
-      added_more _ _ all _ _ read.0 _ _ c.loop-place.invariant.1 _ _ _ read.0.kw-is (rw read.1 at c.add_at.ensures.1) (one-more _ _),
-    )
+loop-place-preserved c = search (rules, counted_more, summed_more, c.in-Some.ensures.steps)
 
 pub returns : goal.returns
-returns c =
-    let done = all-placed _ _ (begun _ _ _ _ c.requires.0 c.into_iter-place-iterator.ensures.into_iter_gives c.enumerate-place-items.ensures.source c.records.ensures c.enumerate-place-items.ensures.count) _ _ _ c.loop-place.yielded_by c.in-None.ensures.steps in
-    (added-all _ _ _ _ c.loop-place.invariant.0 done, added-all _ _ _ _ c.loop-place.invariant.1 done)
+returns c = search (rules, all-walked, added-all, c.in-None.ensures.steps)

@@ -1,9 +1,0 @@
-use Rattle.base.proofs.Prelude.{refl, sym}
-use Rattle.base.proofs.SumLaws.{all_to-zero, all_more}
-use Rattle.sheet_reading.proofs.refusal.each_once.Goals as goal
-
-pub loop-count-init : goal.loop-count-init
-loop-count-init c = sym (all_to-zero _)
-
-pub loop-count-preserved : goal.loop-count-preserved
-loop-count-preserved c = all_more _ _ _ _ c.loop-count.invariant refl
