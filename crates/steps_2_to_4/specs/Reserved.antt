@@ -7,12 +7,17 @@ use Rattle.base.specs.Sums.{all_to}
 use Rattle.base.specs.Words.{at, fill}
 use Rattle.intertie_shares.specs.Pairs.{fill_table}
 use Rattle.sheet_reading.specs.Tables.{limit_slot, load_share_slot}
+use Rattle.sheet_reading.specs.declared.tables.Tables.{Tables}
 use Rattle.steps.specs.Inputs.{Inputs}
 use Rattle.steps.specs.Tables.{of_tables}
 use Rattle.steps.specs.Step2.{available_total, load_share_quantity}
 use Rattle.steps.specs.Step4a.{pre_ra_granted}
 use Rattle.steps.specs.Step4b.{new_use_granted}
 use Rattle.steps.specs.Step5to7.{unassigned}
+
+-- the inputs of the steps, as the tables of a sheet with I interties and H holders have them
+abbrev pub inputs : Tables → ℕ → ℕ → Inputs
+inputs tables I H = of_tables I H tables.kw tables.interties
 
 -- sizes, limits and load shares in range
 abbrev pub fit_tables : List ℕ → ℕ → ℕ → Bool
@@ -30,10 +35,10 @@ pub record Outcome : Type 0 where
 
 -- the Load Share Quantities over the first H words of a row, what stays unassigned over the first I words of a row, P and N over the words
 -- of H holders and I interties of a table; the other words stay
-unfoldable pub reserved : List ℕ → List ℕ → ℕ → ℕ → List ℕ → List ℕ → List ℕ → List ℕ → Outcome
-reserved kw ties I H quantities left pre_ra new_use =
-    let y : Inputs = of_tables I H kw ties in
-    pick (fit_tables kw I H)
+unfoldable pub reserved : Tables → ℕ → ℕ → List ℕ → List ℕ → List ℕ → List ℕ → Outcome
+reserved tables I H quantities left pre_ra new_use =
+    let y = inputs tables I H in
+    pick (fit_tables tables.kw I H)
     (record {
       total = available_total y;
       quantities = fill H (load_share_quantity y) quantities;

@@ -1,5 +1,3 @@
 -- What private functions ask and promise one another. No public contract cites these; a reader need not believe them.
 pub mod Vectors
-pub mod Step2
-pub mod Reserve
 pub mod Steps

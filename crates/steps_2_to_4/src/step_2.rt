@@ -2,9 +2,10 @@
 ghost use Rattle.std.specs.Prelude.{◌≡◌, ℕ, ◌*◌, ◌/◌, ◌≤◌, ◌<◌, length};
 ghost use Rattle.base.specs.Limits.{most_total_kw, most_load_share};
 ghost use Rattle.base.specs.Words.{at, tab};
-ghost use Rattle.steps_2_to_4.specs.Workers.Step2.{Step2Given, Step2Taken};
+ghost use Rattle.steps_2_to_4.specs.Reserved.{inputs};
+ghost use Rattle.steps_2_to_4.specs.Workers.Steps.{Available};
 
-use super::vectors;
+use super::{Sheet, vectors};
 use base::vectors::sum_of;
 use sheet_reading::tables::OUTSIDE;
 
@@ -26,20 +27,23 @@ fn fill_quantities(total: u64, all: u64, loads: &[u64], quantities: &mut [u64])
     ensures { quantities.new
         ≡ tab (length quantities.old) (λ (h : ℕ). total * at loads.now h / all) }
 {
-    for h in 0..quantities.len() {
-        quantities[h] = quantity(total, loads[h], all);
+    for (h, found) in quantities.iter_mut().enumerate() {
+        *found = quantity(total, loads[h], all);
     }
 }
 
-// Step 2: what is available on each intertie and the Load Share Quantities; answers T.
-pub(super) fn step_2(kw: &[u64], loads: &[u64], pools: &mut [u64], quantities: &mut [u64]) -> u64
-    requires { Step2Given kw.now loads.now pools.old quantities.old }
-    ensures { Step2Taken kw.now loads.now (length pools.old)
-        pools.new quantities.new result }
-{
-    vectors::differences(kw, &kw[OUTSIDE..], pools);
-    let total = sum_of(pools);
-    let all = sum_of(loads);
-    fill_quantities(total, all, loads, quantities);
-    total
+impl Sheet<'_> {
+    // Step 2: what is available on each intertie and the Load Share Quantities; answers T.
+    pub(super) fn step_2(self, pools: &mut [u64], quantities: &mut [u64]) -> u64
+        requires { (length pools.old ≡ self.interties) × (length quantities.old ≡ self.holders) }
+        ensures { let y = inputs self.entry.tables.now self.entry.interties self.entry.holders in
+            Available y pools.new quantities.new result }
+    {
+        let kw = &self.tables.kw;
+        vectors::differences(kw, &kw[OUTSIDE..], pools);
+        let total = sum_of(pools);
+        let all = sum_of(self.loads);
+        fill_quantities(total, all, self.loads, quantities);
+        total
+    }
 }
