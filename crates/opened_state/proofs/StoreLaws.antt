@@ -17,21 +17,21 @@ use Rattle.state_rows.specs.Rows.{fill_row, fill_pairs, fit_row, fit_pairs}
 use Rattle.state_rows.proofs.RowLaws.{fill_row-same}
 use Rattle.state_rows.proofs.FitLaws.{row_fits, pairs-fit}
 use Rattle.opened_state.specs.Write.{low, row_low, pair_low, fit_sizes}
-use Rattle.opened_state.specs.Workers.Sizes.{Sizes}
 
 -- sizes that the test lets pass
-pub fit-sizes : (s : List ℕ) (I H : ℕ) → fit_sizes (length s) I H ≡ true → Sizes s I H
-fit-sizes s I H e =
-    let first = and_left (leb state_words (length s) && leb I 48) (leb H 32) e in
-    record {
-      long = leb-true state_words (length s) (and_left (leb state_words (length s)) (leb I 48) first);
-      few = leb-true I 48 (and_right (leb state_words (length s)) (leb I 48) first);
-      low = leb-true H 32 (and_right (leb state_words (length s) && leb I 48) (leb H 32) e);
-    }
+pub record Sizes (words I H : ℕ) : Type 0 where
+  pub long : state_words ≤ words
+  pub few : I ≤ 48
+  pub small : H ≤ 32
 
--- and sizes that it lets pass stay so, as long as the state keeps its length
-pub sizes-kept : (s t : List ℕ) (I H : ℕ) → Sizes s I H → length t ≡ length s → Sizes t I H
-sizes-kept s t I H z same = record { long = omega (arith, z.long); few = z.few; low = z.low }
+pub fit-sizes : (words I H : ℕ) → fit_sizes words I H ≡ true → Sizes words I H
+fit-sizes words I H e =
+    let first = and_left (leb state_words words && leb I 48) (leb H 32) e in
+    record {
+      long = leb-true state_words words (and_left (leb state_words words) (leb I 48) first);
+      few = leb-true I 48 (and_right (leb state_words words) (leb I 48) first);
+      small = leb-true H 32 (and_right (leb state_words words && leb I 48) (leb H 32) e);
+    }
 
 pub stored_row : (s after values : List ℕ) (row n : ℕ) →
     after ≡ pick (fit_row (length s) row n (length values)) (fill_row row n (row_low values) s) s →

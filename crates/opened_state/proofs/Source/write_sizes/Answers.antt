@@ -1,8 +1,8 @@
 -- `write_sizes` meets its contract: two words are stored.
 use Rattle.base.proofs.Prelude.{ap, ◌∙◌, set}
 use Rattle.state.specs.Layout.{holders_at}
-use Rattle.opened_state.proofs.write_sizes.Goals as goal
+use Rattle.opened_state.proofs.Source.write_sizes.Goals as goal
 
 pub returns : goal.returns
 returns c =
-    c.store-2.ensures ∙ ap (λ s. set s holders_at c.args.holders) c.store.ensures
+    c.store-2.ensures ∙ ap (λ s. set s holders_at c.args.self.holders) c.store.ensures

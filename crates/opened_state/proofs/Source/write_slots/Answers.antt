@@ -1,0 +1,10 @@
+-- `write_slots` meets its contract: the part is stored whole (`StoreLaws`).
+use Rattle.base.proofs.Prelude.{rules}
+use Rattle.opened_state.proofs.StoreLaws.{stored-slots}
+use Rattle.opened_state.proofs.Source.write_slots.Goals as goal
+
+pub returns : goal.returns
+returns c =
+    let a = c.args in
+    let p = c.requires in
+    stored-slots a.state.now _ a.self.tables.now.kw a.row a.count a.slot _ c.store_row.ensures p.0 p.1 p.2 p.3 (search rules) (search rules)
