@@ -1,28 +1,16 @@
 -- Why sums in 32 bits tell whether limits in range are met: a pair's kW are below 2 ^ 25 there, and 32 such pairs add up to less than 2 ^ 32.
-use Rattle.std.proofs.Common.{◌≡◌, ℕ, ◌+◌, ◌*◌, ◌%◌, ◌^◌, ◌<◌, ◌≤◌, Bool, true, ◌&&◌, eqb, ltb, leb, List, length, sym, refl, ap, ◌∙◌, mod-eq_of_lt, arith, ltb-true, lt-ltb}
-use mathlib.Core.Bool.{and_assoc}
+use Rattle.std.proofs.Common.{◌≡◌, ℕ, zero, suc, ◌+◌, ◌*◌, ◌%◌, ◌^◌, ◌<◌, ◌≤◌, Bool, true, ◌&&◌, eqb, ltb, leb, List, length, sym, refl, ap, ◌∙◌, zero-le, add-zero, add-suc, add_assoc, mod-eq_of_lt, arith, ltb-true, lt-ltb}
+use mathlib.Core.Bool.{and_assoc, and-true}
 use native.Mathlib.Nat.{mod-add-mod, add-mod-mod}
 use lib.Bits.{bit_or, or_lt, or_add_and, and_le_l, and_le_r}
 use Rattle.base.specs.Sums.{sum_to, all_to}
 use Rattle.base.specs.Words.{at, fill}
 use Rattle.base.proofs.ChoiceLaws.{and_both, same_test, and_left, and_right}
-use Rattle.base.proofs.SumLaws.{sum_to-add, sum_to-bound, sum_to-term, all_to-same, sum_to-more, each-le, each-eq, each-pair, all-pairs, all_to-both, all_to-next, all_more}
+use Rattle.base.proofs.SumLaws.{sum_to-add, sum_to-bound, sum_to-term, all_to-same, all_to-all, sum_to-more, each-le, each-eq, each-pair, all-pairs, all_to-both, all_more}
 use Rattle.base.proofs.WordLaws.{at_fill, length-fill}
 use Rattle.state.specs.Layout.{interties, holders, limit_of, existing_of, pre_ra_of, new_use_of, placed_of, taken_of}
 use Rattle.state.specs.Orderly.{limits_in_range, balanced, intertie_kw}
-use Rattle.orderly.specs.Workers.Check.{pair_kw, pair_fits, two_kw, two_fit, Cleared, Added, limit_met}
-
--- the kW of a pair, its words added in 32 bits
-pub pair-kw-wraps :
-    (s : List ℕ) (h i : ℕ) {e p n l t ep reserved most r : ℕ}
-    → e ≡ existing_of s h i → p ≡ pre_ra_of s h i → n ≡ new_use_of s h i → l ≡ placed_of s h i → t ≡ taken_of s h i
-    → ep ≡ (e + p) % 2 ^ 32 → reserved ≡ (ep + n) % 2 ^ 32 → most ≡ (reserved + l) % 2 ^ 32 → r ≡ (most + t) % 2 ^ 32
-    → r ≡ pair_kw s h i % 2 ^ 32
-pair-kw-wraps s h i {e} {p} {n} {l} {t} {ep} {reserved} {most} {r} a b c d f w1 w2 w3 w4 =
-    let two : reserved ≡ (e + p + n) % 2 ^ 32 = w2 ∙ ap (λ (x : ℕ). (x + n) % 2 ^ 32) w1 ∙ mod-add-mod (e + p) (2 ^ 32) n in
-    let three : most ≡ (e + p + n + l) % 2 ^ 32 = w3 ∙ ap (λ (x : ℕ). (x + l) % 2 ^ 32) two ∙ mod-add-mod (e + p + n) (2 ^ 32) l in
-    let four : r ≡ (e + p + n + l + t) % 2 ^ 32 = w4 ∙ ap (λ (x : ℕ). (x + t) % 2 ^ 32) three ∙ mod-add-mod (e + p + n + l) (2 ^ 32) t in
-    four ∙ ap (λ (x : ℕ). x % 2 ^ 32) (cc)
+use Rattle.orderly.specs.Workers.Check.{pair_kw, pair_fits, Cleared, Added, limit_met}
 
 -- the bits of two words together are below 2 ^ k where and_both words are
 pub or-below : (k a b : ℕ) → ltb (bit_or a b) (2 ^ k) ≡ (ltb a (2 ^ k) && ltb b (2 ^ k))
@@ -74,12 +62,12 @@ small-sum e p n l t kw w small =
     or_lt 25 _ kw (or_lt 25 _ t (or_lt 25 _ l (or_lt 25 _ n (or_lt 25 e p (omega arith) (omega arith)) (omega arith)) (omega arith)) (omega arith)) kw-small
 
 -- the bits of a pair
-pub pair-bits-tell :
+pub pair_bits_tell :
     (s : List ℕ) (h i : ℕ) {e p n l t kw : ℕ}
     → e ≡ existing_of s h i → p ≡ pre_ra_of s h i → n ≡ new_use_of s h i → l ≡ placed_of s h i → t ≡ taken_of s h i
     → kw ≡ pair_kw s h i % 2 ^ 32
     → ltb (bit_or (bit_or (bit_or (bit_or (bit_or e p) n) l) t) kw) (2 ^ 25) ≡ pair_fits s h i
-pair-bits-tell s h i {e} {p} {n} {l} {t} {kw} a b c d f w =
+pair_bits_tell s h i {e} {p} {n} {l} {t} {kw} a b c d f w =
     let bits = bit_or (bit_or (bit_or (bit_or (bit_or e p) n) l) t) kw in
     let sum : e + p + n + l + t ≡ pair_kw s h i = cc in
     let wraps : kw ≡ (e + p + n + l + t) % 2 ^ 32 = w ∙ ap (λ (x : ℕ). x % 2 ^ 32) (sym sum) in
@@ -89,26 +77,17 @@ pair-bits-tell s h i {e} {p} {n} {l} {t} {kw} a b c d f w =
     ∙ ap (λ (x : ℕ). ltb x (2 ^ 25)) sum
 
 -- a loop that puts bits together: a turn
-pub bits-turn : (n : ℕ) (p : ℕ → Bool) (bits b : ℕ) → ltb bits (2 ^ 25) ≡ all_to n p → ltb b (2 ^ 25) ≡ p n → ltb (bit_or bits b) (2 ^ 25) ≡ all_to (n + 1) p
-bits-turn n p bits b e t = or-below 25 bits b ∙ all_more n p (ltb bits (2 ^ 25)) (ltb b (2 ^ 25)) e t
+pub bits_turn : (n : ℕ) (p : ℕ → Bool) (bits b : ℕ) → ltb bits (2 ^ 25) ≡ all_to n p → ltb b (2 ^ 25) ≡ p n → ltb (bit_or bits b) (2 ^ 25) ≡ all_to (n + 1) p
+bits_turn n p bits b e t = or-below 25 bits b ∙ all_more n p (ltb bits (2 ^ 25)) (ltb b (2 ^ 25)) e t
 
--- the kW of two pairs, in 32 bits
-pub two-kw-wraps : (s : List ℕ) (h i : ℕ) {a b r : ℕ} → a ≡ pair_kw s h i % 2 ^ 32 → b ≡ pair_kw s (h + 1) i % 2 ^ 32 → r ≡ (a + b) % 2 ^ 32 → r ≡ two_kw s h i % 2 ^ 32
-two-kw-wraps s h i {a} {b} {r} e f w =
-    w
-    ∙ ap (λ (x : ℕ). (x + b) % 2 ^ 32) e
-    ∙ mod-add-mod (pair_kw s h i) (2 ^ 32) b
-    ∙ ap (λ (x : ℕ). (pair_kw s h i + x) % 2 ^ 32) f
-    ∙ add-mod-mod (pair_kw s h i) (pair_kw s (h + 1) i) (2 ^ 32)
-
--- their bits
-pub two-bits-tell :
-    (s : List ℕ) (h i a b : ℕ) → ltb a (2 ^ 25) ≡ pair_fits s h i → ltb b (2 ^ 25) ≡ pair_fits s (h + 1) i
-    → ltb (bit_or a b) (2 ^ 25) ≡ two_fit s h i
-two-bits-tell s h i a b e f =
-    or-below 25 a b
-    ∙ ap (λ (x : Bool). x && ltb b (2 ^ 25)) e
-    ∙ ap (λ (x : Bool). pair_fits s h i && x) f
+-- a loop that adds kW in 32 bits: a turn
+pub kw_turn : (n : ℕ) (f : ℕ → ℕ) (kw x : ℕ) → kw ≡ sum_to n f % 2 ^ 32 → x ≡ f n % 2 ^ 32 → (kw + x) % 2 ^ 32 ≡ sum_to (n + 1) f % 2 ^ 32
+kw_turn n f kw x e t =
+    ap (λ (k : ℕ). (k + x) % 2 ^ 32) e
+    ∙ mod-add-mod (sum_to n f) (2 ^ 32) x
+    ∙ ap (λ (k : ℕ). (sum_to n f + k) % 2 ^ 32) t
+    ∙ add-mod-mod (sum_to n f) (f n) (2 ^ 32)
+    ∙ ap (λ (k : ℕ). k % 2 ^ 32) (sym (sum_to-more n f))
 
 -- kW added to the sums of n interties, in 32 bits
 sums-turn :
@@ -127,66 +106,46 @@ sums-turn sums next n kw before e long held i l =
 filled-places : (sums next : List ℕ) (n : ℕ) (f : ℕ → ℕ) → next ≡ fill n f sums → length sums ≡ 48 → length next ≡ 48
 filled-places sums next n f e long = ap (λ (k : List ℕ). length k) e ∙ length-fill n f sums ∙ long
 
--- the sums of no holder, of one more, of two more, and of as many
+-- the first m numbers, and n after them
+sum_to-split : (m n : ℕ) (f : ℕ → ℕ) → sum_to m f + sum_to n (λ k. f (m + k)) ≡ sum_to (m + n) f
+unfolding sum_to
+sum_to-split m zero f = add-zero (sum_to m f) ∙ ap (λ (k : ℕ). sum_to k f) (sym (add-zero m))
+sum_to-split m (suc n) f = rw add-suc (sym (add_assoc _ _ _) ∙ ap (λ (k : ℕ). k + f (m + n)) (sum_to-split m n f))
+
+all_to-split : (m n : ℕ) (p : ℕ → Bool) → (all_to m p && all_to n (λ k. p (m + k))) ≡ all_to (m + n) p
+unfolding all_to
+all_to-split m zero p = rw add-zero (and-true (all_to m p))
+all_to-split m (suc n) p = rw add-suc (sym (and_assoc (all_to m p) _ _) ∙ ap (λ (b : Bool). b && p (m + n)) (all_to-split m n p))
+
+-- the sums of no holder, and of some more
 pub added_none : (s sums : List ℕ) → Cleared (interties s) sums → Added s 0 0 sums
 unfolding all_to sum_to
-added_none s sums c = record { places = c.places; fit = refl; held = c.zeros }
+added_none s sums c = record { few = c.few; most = zero-le; places = c.places; fit = sym (all_to-all (interties s) (λ i. true) (λ i l. refl)); held = c.zeros }
 
-added-one :
-    (s sums next : List ℕ) (h bits b : ℕ) → interties s ≤ 48 → Added s h bits sums
-    → ltb b (2 ^ 25) ≡ all_to (interties s) (λ i. pair_fits s h i)
-    → next ≡ fill (interties s) (λ i. (at sums i + pair_kw s h i % 2 ^ 32) % 2 ^ 32) sums
-    → Added s (h + 1) (bit_or bits b) next
-added-one s sums next h bits b most added fits e =
+pub added_more :
+    (s sums next : List ℕ) (m n bits b : ℕ) → m + n ≤ 32 → Added s m bits sums
+    → ltb b (2 ^ 25) ≡ all_to (interties s) (λ i. all_to n (λ k. pair_fits s (m + k) i))
+    → next ≡ fill (interties s) (λ i. (at sums i + sum_to n (λ k. pair_kw s (m + k) i) % 2 ^ 32) % 2 ^ 32) sums
+    → Added s (m + n) (bit_or bits b) next
+added_more s sums next m n bits b most added fits e =
     record {
-      places = filled-places sums next _ _ e added.places;
-      fit = bits-turn h (λ k. all_to (interties s) (λ i. pair_fits s k i)) bits b added.fit fits;
-      held =
-          λ i l.
-          sums-turn sums next (interties s) (λ j. pair_kw s h j) (λ j. sum_to h (λ k. pair_kw s k j)) e (omega (arith, added.places)) added.held i l
-          ∙ ap (λ (x : ℕ). x % 2 ^ 32) (sym (sum_to-more h (λ k. pair_kw s k i)));
-    }
-
-pub added-two :
-    (s sums next : List ℕ) (two bits b : ℕ) → interties s ≤ 48 → Added s (2 * two) bits sums
-    → ltb b (2 ^ 25) ≡ all_to (interties s) (λ i. two_fit s (2 * two) i)
-    → next ≡ fill (interties s) (λ i. (at sums i + two_kw s (2 * two) i % 2 ^ 32) % 2 ^ 32) sums
-    → Added s (2 * (two + 1)) (bit_or bits b) next
-added-two s sums next two bits b most added fits e =
-    let h : ℕ = 2 * two in
-    let after : h + 1 + 1 ≡ 2 * (two + 1) = omega arith in
-    let fit_of : ℕ → Bool = λ k. all_to (interties s) (λ i. pair_fits s k i) in
-    let both-fit : ltb b (2 ^ 25) ≡ (fit_of h && fit_of (h + 1)) = fits ∙ all_to-both (interties s) (λ i. pair_fits s h i) (λ i. pair_fits s (h + 1) i) in
-    record {
-      places = filled-places sums next _ _ e added.places;
+      few = added.few;
+      most = most;
+      places = ap (λ (k : List ℕ). length k) e ∙ length-fill (interties s) _ sums ∙ added.places;
       fit =
           or-below 25 bits b
           ∙ ap (λ (x : Bool). x && ltb b (2 ^ 25)) added.fit
-          ∙ ap (λ (x : Bool). all_to h fit_of && x) both-fit
-          ∙ sym (and_assoc (all_to h fit_of) (fit_of h) (fit_of (h + 1)))
-          ∙ ap (λ (x : Bool). x && fit_of (h + 1)) (sym (all_to-next h fit_of))
-          ∙ sym (all_to-next (h + 1) fit_of)
-          ∙ ap (λ (x : ℕ). all_to x fit_of) after;
+          ∙ ap (λ (x : Bool). all_to (interties s) (λ i. all_to m (λ h. pair_fits s h i)) && x) fits
+          ∙ sym (all_to-both (interties s) (λ i. all_to m (λ h. pair_fits s h i)) (λ i. all_to n (λ k. pair_fits s (m + k) i)))
+          ∙ all_to-same (interties s) _ _ (λ i l. all_to-split m n (λ h. pair_fits s h i));
       held =
           λ i l.
-          sums-turn sums next (interties s) (λ j. two_kw s h j) (λ j. sum_to h (λ k. pair_kw s k j)) e (omega (arith, added.places)) added.held i l
-          ∙ ap (λ (x : ℕ). x % 2 ^ 32)
-          (omega (arith, sum_to-more h (λ k. pair_kw s k i), sum_to-more (h + 1) (λ k. pair_kw s k i)))
-          ∙ ap (λ (x : ℕ). sum_to x (λ k. pair_kw s k i) % 2 ^ 32) after;
+          sums-turn sums next (interties s) (λ j. sum_to n (λ k. pair_kw s (m + k) j)) (λ j. sum_to m (λ h. pair_kw s h j)) e (omega (arith, added.places, added.few)) added.held i l
+          ∙ ap (λ (x : ℕ). x % 2 ^ 32) (sum_to-split m n (λ h. pair_kw s h i));
     }
 
 pub added-same : (s sums : List ℕ) (m n bits : ℕ) → m ≡ n → Added s m bits sums → Added s n bits sums
 added-same s sums m n bits e added = rw e at added
-
--- the last holder
-pub added-last :
-    (s sums next : List ℕ) (m h bits b : ℕ) → interties s ≤ 48 → m ≡ h → h + 1 ≡ holders s → Added s m bits sums
-    → ltb b (2 ^ 25) ≡ all_to (interties s) (λ i. pair_fits s h i)
-    → next ≡ fill (interties s) (λ i. (at sums i + pair_kw s h i % 2 ^ 32) % 2 ^ 32) sums
-    → Added s (holders s) (bit_or bits b) next
-added-last s sums next m h bits b most e last added fits filled =
-    added-same s next (h + 1) (holders s) (bit_or bits b) last
-    (added-one s sums next h bits b most (added-same s sums m h bits e added) fits filled)
 
 -- the sum of pairs that fit passes no 32 bits
 sum_fits : (s : List ℕ) (m i : ℕ) → m ≤ 32 → ((h : ℕ) → h < m → pair_kw s h i < 2 ^ 25) → sum_to m (λ h. pair_kw s h i) % 2 ^ 32 ≡ sum_to m (λ h. pair_kw s h i)
@@ -220,9 +179,9 @@ balanced-is s sums h =
     (λ i l. ap (λ (x : ℕ). eqb (limit_of s i) x) (omega (arith, h i l, pairs-on s (holders s) i)))
 
 -- under limits that are in range and met, the kW of every pair fit
-met-fits : (s : List ℕ) → limits_in_range s ≡ true → balanced s ≡ true → (h i : ℕ) → h < holders s → i < interties s → pair_fits s h i ≡ true
+met-fits : (s : List ℕ) → limits_in_range s ≡ true → balanced s ≡ true → (i h : ℕ) → i < interties s → h < holders s → pair_fits s h i ≡ true
 unfolding limits_in_range balanced
-met-fits s range met h i k l =
+met-fits s range met i h l k =
     lt-ltb (pair_kw s h i) (2 ^ 25)
     (omega (
       arith,
@@ -236,20 +195,20 @@ met-fits s range met h i k l =
 fits-tell :
     (s sums : List ℕ) → holders s ≤ 32
     → ((i : ℕ) → i < interties s → at sums i ≡ sum_to (holders s) (λ h. pair_kw s h i) % 2 ^ 32)
-    → ((h i : ℕ) → h < holders s → i < interties s → pair_fits s h i ≡ true)
+    → ((i h : ℕ) → i < interties s → h < holders s → pair_fits s h i ≡ true)
     → all_to (interties s) (λ i. limit_met s i (at sums i)) ≡ balanced s
 fits-tell s sums most held fits =
-    balanced-is s sums (λ i l. held i l ∙ sum_fits s (holders s) i most (λ h k. ltb-true (pair_kw s h i) (2 ^ 25) (fits h i k l)))
+    balanced-is s sums (λ i l. held i l ∙ sum_fits s (holders s) i most (λ h k. ltb-true (pair_kw s h i) (2 ^ 25) (fits i h l k)))
 
 -- limits in range and met, from the three tests of them
 pub limits-balance-is :
-    (s sums : List ℕ) (n bits : ℕ) → n ≡ interties s → holders s ≤ 32 → {range met : Bool}
+    (s sums : List ℕ) (n bits : ℕ) → n ≡ interties s → {range met : Bool}
     → range ≡ all_to n (λ i. leb (limit_of s i) 20000000)
     → Added s (holders s) bits sums
     → met ≡ all_to (interties s) (λ i. limit_met s i (at sums i))
     → (range && ltb bits (2 ^ 25) && met) ≡ (limits_in_range s && balanced s)
 unfolding limits_in_range
-limits-balance-is s sums n bits count most {range} {met} tested added c =
+limits-balance-is s sums n bits count {range} {met} tested added c =
     let small : Bool = ltb bits (2 ^ 25) in
     let b = added.fit in
     let held = added.held in
@@ -257,13 +216,13 @@ limits-balance-is s sums n bits count most {range} {met} tested added c =
     same_test (range && small && met) (limits_in_range s && balanced s)
     (λ (e : (range && small && met) ≡ true).
     let two : (range && small) ≡ true = and_left (range && small) met e in
-    let fits = each-pair (holders s) (interties s) (λ h i. pair_fits s h i) (sym b ∙ and_right range small two) in
+    let fits = each-pair (interties s) (holders s) (λ i h. pair_fits s h i) (sym b ∙ and_right range small two) in
     and_both (limits_in_range s) (balanced s) (sym a ∙ and_left range small two)
-    (sym (fits-tell s sums most held fits) ∙ sym c ∙ and_right (range && small) met e))
+    (sym (fits-tell s sums added.most held fits) ∙ sym c ∙ and_right (range && small) met e))
     (λ (e : (limits_in_range s && balanced s) ≡ true).
     let in-range = and_left (limits_in_range s) (balanced s) e in
     let Met-all = and_right (limits_in_range s) (balanced s) e in
     let fits = met-fits s in-range Met-all in
     and_both (range && small) met
-    (and_both range small (a ∙ in-range) (b ∙ all-pairs (holders s) (interties s) (λ h i. pair_fits s h i) fits))
-    (c ∙ fits-tell s sums most held fits ∙ Met-all))
+    (and_both range small (a ∙ in-range) (b ∙ all-pairs (interties s) (holders s) (λ i h. pair_fits s h i) fits))
+    (c ∙ fits-tell s sums added.most held fits ∙ Met-all))

@@ -8,46 +8,33 @@ mod locks;
 mod pending;
 mod rows;
 
-ghost use Rattle.std.specs.Prelude.{◌≡◌, ◌≤◌, length};
-ghost use Rattle.base.specs.Limits.{state_words};
+ghost use Rattle.std.specs.Prelude.{◌≡◌};
 ghost use Rattle.base.specs.Refused.{number_in};
-ghost use Rattle.state.specs.Orderly.{orderly, state_refusal};
-ghost use Rattle.orderly.specs.Workers.Check.{Sized, rows_in_order};
+ghost use Rattle.state.specs.Orderly.{state_refusal};
+ghost use Rattle.orderly.specs.Workers.Check.{rows_in_order};
 
-use base::limits::STATE_WORDS;
 use base::refusals::Refusal;
+use rows::Rows;
 
 // What every call of the year begins with: refusal 5 for a state under 16,000 words, 6 for one that is not orderly.
+#[tactic(auto, using(crate::proofs::CheckLaws::checked))]
 pub fn check_state(state: &[u32]) -> Result<(), Refusal>
     ensures { number_in result ≡ state_refusal state.now }
 {
-    if state.len() < STATE_WORDS {
-        return Err(Refusal::Room);
+    let rows = Rows::of(state)?;
+    if rows_in_order(&rows) {
+        Ok(())
+    } else {
+        Err(Refusal::NotOrderly)
     }
-    if !is_orderly(state) {
-        return Err(Refusal::NotOrderly);
-    }
-    Ok(())
-}
-
-// Whether a state of 16,000 words is orderly.
-fn is_orderly(state: &[u32]) -> bool
-    requires { state_words ≤ length state.now }
-    ensures { result ≡ orderly state.now }
-{
-    if fields::sizes_in_range(state) {
-        return rows_in_order(state);
-    }
-    false
 }
 
 // All but the sizes and the stage.
-fn rows_in_order(state: &[u32]) -> bool
-    requires { Sized state.now }
-    ensures { result ≡ rows_in_order state.now }
+fn rows_in_order(rows: &Rows) -> bool
+    ensures { result ≡ rows_in_order rows.now }
 {
-    fields::fields_in_range(state)
-        & balance::limits_balance(state)
-        & locks::locks_in_order(state)
-        & pending::pending_in_order(state)
+    fields::fields_in_range(rows)
+        & balance::limits_balance(rows)
+        & locks::locks_in_order(rows)
+        & pending::pending_in_order(rows)
 }

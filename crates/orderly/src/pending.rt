@@ -1,47 +1,49 @@
 // Pending kW.
-ghost use Rattle.std.specs.Prelude.{◌≡◌, ◌<◌, ◌≤◌, length, nat_le};
-ghost use Rattle.base.specs.Limits.{state_words, most_holders};
+ghost use Rattle.std.specs.Prelude.{◌≡◌, ◌<◌, nat_le};
+ghost use Rattle.base.specs.Limits.{most_holders};
 ghost use Rattle.state.specs.Layout.{pending_of, of_holder};
 ghost use Rattle.state.specs.Orderly.{pending_within_unplaced};
-ghost use Rattle.orderly.specs.Workers.Check.{Sized, most_pending};
+ghost use Rattle.orderly.specs.Workers.Check.{most_pending};
 
-use super::rows::{row_is_clear, row_sum, row_word};
-use base::stages;
+use super::rows::Rows;
+use base::stages::Stage;
 use state::layout;
 
 // The most that a holder may have pending: its unplaced, and 0 in stages 1 and 4.
-fn most_pending(state: &[u32], holder: u32) -> u64
-    requires { (state_words ≤ length state.now) × (holder < most_holders) }
-    ensures { result ≡ most_pending state.now holder }
+fn most_pending(rows: &Rows, holder: u32) -> u64
+    requires { holder < most_holders }
+    ensures { result ≡ most_pending rows.now holder }
 {
-    let stage = state::stage(state);
-    if (stage == stages::TRADING) | (stage == stages::OPEN) {
-        return 0;
+    match rows.stage() {
+        Stage::Trading | Stage::Open => 0,
+        Stage::FirstRequests | Stage::SecondRequests => {
+            u64::from(rows.word(layout::UNPLACED, holder as usize))
+        }
     }
-    row_word(state, layout::UNPLACED, holder as usize) as u64
 }
 
 // Whether a holder's pending kW are within their most. Where that is 0, so is each of them.
-fn holder_pending_in_order(state: &[u32], holder: u32) -> bool
-    requires { Sized state.now × (holder < most_holders) }
-    ensures { let s = state.now in result ≡ nat_le (of_holder pending_of s holder) (most_pending s holder) }
+#[tactic(auto, using(crate::proofs::CheckLaws::none_pending))]
+fn holder_pending_in_order(rows: &Rows, holder: u32) -> bool
+    requires { holder < most_holders }
+    ensures { let s = rows.now in result ≡ nat_le (of_holder pending_of s holder) (most_pending s holder) }
 {
-    let interties = state::intertie_count(state) as usize;
-    let most = most_pending(state, holder);
+    let interties = rows.interties();
+    let most = most_pending(rows, holder);
     if most == 0 {
-        return row_is_clear(state, layout::PENDING + holder, interties);
+        return rows.is_clear(layout::PENDING + holder, interties);
     }
-    row_sum(state, layout::PENDING + holder, interties) <= most
+    rows.sum(layout::PENDING + holder, interties) <= most
 }
 
 // Whether the pending kW of all holders are in order.
-pub(super) fn pending_in_order(state: &[u32]) -> bool
-    requires { Sized state.now }
-    ensures { result ≡ pending_within_unplaced state.now }
+#[tactic(auto, using(base::proofs::SumLaws::all_more), unfolding(base::specs::Sums::all_to))]
+pub(super) fn pending_in_order(rows: &Rows) -> bool
+    ensures { result ≡ pending_within_unplaced rows.now }
 {
     let mut in_order = true;
-    for holder in 0..state::holder_count(state) {
-        in_order = in_order & holder_pending_in_order(state, holder);
+    for holder in 0..rows.holders() {
+        in_order = in_order & holder_pending_in_order(rows, holder);
     }
     in_order
 }
