@@ -3,13 +3,18 @@ use Prim.Native.Nat.{ℕ, ◌+◌, ◌*◌, ◌≤◌, ◌<◌}
 use mathlib.Core.Path.{◌≡◌, refl, sym, ap, ◌∙◌}
 use mathlib.Core.Logic.{◌≢◌, ⊎_elim}
 use mathlib.Core.List.{List}
+use Rattle.std.specs.Prelude.{Result, Ok, Err}
 use native.Mathlib.Omega.{arith}
 use lib.ListN.{length, replicate, length-replicate}
 use borrow.Author.Tests.{ne_eqb}
 use Rattle.base.specs.Sums.{sum_to}
 use Rattle.base.specs.Words.{at}
 use Rattle.base.specs.declared.Answer.{Answer}
+use Rattle.base.specs.declared.Granted.{Granted}
+use Rattle.base.specs.declared.refusals.Refusal.{Refusal}
 use Rattle.base.specs.Answers.{refused, granted}
+use Rattle.base.specs.Refused.{number_of, answer_of}
+use Rattle.base.proofs.RefusedLaws.{numbered}
 use Rattle.base.proofs.SumLaws.{sum_to-same}
 use Rattle.base.proofs.WordLaws.{at_fill}
 use Rattle.state.specs.Layout.{interties, holders}
@@ -62,33 +67,36 @@ module _ (sheet l : List ℕ) where
   post-done e = rw e refl
 
 -- an opening into 16,000 zeros, with its Load Share Quantities: what `post` finds after it
-module _ (sheet after quantities : List ℕ) (answer : Answer) (r : answer ≡ (opened sheet (replicate 16000 0)).answer)
+module _ (sheet after quantities : List ℕ) (outcome : Result Granted Refusal) (r : answer_of outcome ≡ (opened sheet (replicate 16000 0)).answer)
     (e : after ≡ (opened sheet (replicate 16000 0)).state) (q : quantities ≡ quantities_found sheet (replicate 16000 0) (replicate 32 0)) where
   zeros-long : 16000 ≤ length {A = ℕ} (replicate 16000 0)
   zeros-long = omega (arith, length-replicate {A = ℕ} 16000 0)
 
-  -- its refusal is the sheet's
-  pub post-number : sheet_refusal sheet ≢ 0 → answer ≡ refused (sheet_refusal sheet)
-  post-number ne = r ∙ ap (λ (o : Outcome). o.answer) (open-refused sheet (replicate 16000 0) ne)
+  -- a refusal is the sheet's
+  pub post-refuses : (refusal : Refusal) → outcome ≡ Err refusal → (l : List ℕ) → (refused (number_of refusal) ≡ (posted sheet l).answer) × (l ≡ (posted sheet l).lines)
+  post-refuses refusal is l =
+      let number : number_of refusal ≡ (opened sheet (replicate 16000 0)).answer.refusal = sym (ap (λ (o : Result Granted Refusal). (answer_of o).refusal) is) ∙ ap (λ (a : Answer). a.refusal) r in
+      let ne : sheet_refusal sheet ≢ 0 =
+      λ z. omega (arith, numbered refusal, number ∙ ap (λ (o : Outcome). o.answer.refusal) (open-granted sheet (replicate 16000 0) z zeros-long)) in
+      let done = post-refused sheet l ne in (
+        sym (ap answer_of is) ∙ r ∙ ap (λ (o : Outcome). o.answer) (open-refused sheet (replicate 16000 0) ne) ∙ sym (ap (λ (o : Posted). o.answer) done),
+        sym (ap (λ (o : Posted). o.lines) done),
+      )
 
-  pub post-stands : answer.refusal ≡ 0 → sheet_refusal sheet ≡ 0
-  post-stands none =
-      ⊎_elim (λ (z : sheet_refusal sheet ≡ 0). z)
-      (λ (ne : sheet_refusal sheet ≢ 0). sym (ap (λ (a : Answer). a.refusal) (post-number ne)) ∙ none)
-      (zero_or (sheet_refusal sheet))
-
-  pub post-fails : (answer.refusal ≡ 0 → ⊥) → sheet_refusal sheet ≢ 0
-  post-fails some z = some (ap (λ (a : Answer). a.refusal) r ∙ ap (λ (o : Outcome). o.answer.refusal) (open-granted sheet (replicate 16000 0) z zeros-long))
-
-  module _ (none : answer.refusal ≡ 0) where
-    stands : sheet_refusal sheet ≡ 0
-    stands = post-stands none
+  module _ (total : Granted) (is : outcome ≡ Ok total) where
+    pub stands : sheet_refusal sheet ≡ 0
+    stands =
+        ⊎_elim (λ (z : sheet_refusal sheet ≡ 0). z)
+        (λ (ne : sheet_refusal sheet ≢ 0).
+        sym (ap (λ (o : Outcome). o.answer.refusal) (open-refused sheet (replicate 16000 0) ne))
+        ∙ sym (ap (λ (a : Answer). a.refusal) r) ∙ ap (λ (o : Result Granted Refusal). (answer_of o).refusal) is)
+        (zero_or (sheet_refusal sheet))
 
     after_is : after ≡ opened_state (of_sheet sheet) (replicate 16000 0)
     after_is = e ∙ ap (λ (o : Outcome). o.state) (open-granted sheet (replicate 16000 0) stands zeros-long)
 
-    pub post-answer : answer ≡ granted (available_total (of_sheet sheet)) 0
-    post-answer = r ∙ ap (λ (o : Outcome). o.answer) (open-granted sheet (replicate 16000 0) stands zeros-long)
+    pub post-answer : granted total.kw total.passes ≡ granted (available_total (of_sheet sheet)) 0
+    post-answer = sym (ap answer_of is) ∙ r ∙ ap (λ (o : Outcome). o.answer) (open-granted sheet (replicate 16000 0) stands zeros-long)
 
     pub post-state : Opened (of_sheet sheet) after
     post-state =
@@ -119,7 +127,7 @@ module _ (sheet after quantities : List ℕ) (answer : Answer) (r : answer ≡ (
           rw i-is v.interties-most
 
       pub post-lines : (l m n : List ℕ) → m ≡ interties_from I H after l → n ≡ holders_from H after quantities m →
-          (answer ≡ (posted sheet l).answer) × (n ≡ (posted sheet l).lines)
+          (granted total.kw total.passes ≡ (posted sheet l).answer) × (n ≡ (posted sheet l).lines)
       post-lines l m n p q =
           let done = post-done sheet l stands in
           let first : m ≡ intertie_lines (of_sheet sheet) l = p ∙ interties-same (of_sheet sheet) after l post-state I H i-is h-is in (

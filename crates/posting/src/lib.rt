@@ -5,27 +5,25 @@ mod lines;
 pub mod rows;
 
 ghost use Rattle.std.specs.Prelude.{◌≡◌};
+ghost use Rattle.base.specs.Refused.{answer_of};
 ghost use Rattle.posting.specs.Post.{posted};
 
-use base::Answer;
+use base::Granted;
 use base::limits::{MOST_HOLDERS, STATE_WORDS};
+use base::refusals::Refusal;
 use rows::NUMBERS;
-use state::layout;
 
 // Posts a sheet: T and the numbers of its lines, a row for each figure, or its refusal.
-pub fn post(sheet: &[u8], lines: &mut [u64; NUMBERS]) -> Answer
+pub fn post(sheet: &[u8], lines: &mut [u64; NUMBERS]) -> Result<Granted, Refusal>
     ensures { let p = posted sheet.now lines.old in
-        (result ≡ p.answer) × (lines.new ≡ p.lines) }
+        (answer_of result ≡ p.answer) × (lines.new ≡ p.lines) }
 {
     let mut state = [0u32; STATE_WORDS];
     let mut quantities = [0u64; MOST_HOLDERS];
-    let answer = opening::open_with_quantities(sheet, &mut state, &mut quantities);
-    if answer.refusal != 0 {
-        return answer;
-    }
-    let interties = state::word(&state, layout::SIZES, layout::INTERTIES) as usize;
-    let holders = state::word(&state, layout::SIZES, layout::HOLDERS) as usize;
+    let granted = opening::open_with_quantities(sheet, &mut state, &mut quantities)?;
+    let interties = state::intertie_count(&state) as usize;
+    let holders = state::holder_count(&state) as usize;
     lines::intertie_lines(&state, interties, holders, lines);
     lines::holder_lines(&state, &quantities, holders, lines);
-    answer
+    Ok(granted)
 }

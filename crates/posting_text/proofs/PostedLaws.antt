@@ -1,14 +1,18 @@
 -- The text of a sheet by cases: refused, or posted.
 use Prim.Native.Nat.{ℕ, ◌+◌, ◌*◌, ◌≤◌, ◌<◌}
 use mathlib.Core.Path.{◌≡◌, refl, sym, ap, ◌∙◌}
-use mathlib.Core.Logic.{◌≢◌}
 use mathlib.Core.List.{List, [], ◌∷◌, ◌++◌}
 use native.Mathlib.Omega.{arith}
+use Rattle.std.specs.Prelude.{Result, Ok, Err}
 use lib.Dec.{eqb, ltb}
 use lib.ListN.{length, replicate, length-replicate, length-append}
 use borrow.Author.Tests.{eqb-true, ne_eqb, le-ltb}
 use Rattle.base.specs.Choice.{pick}
 use Rattle.base.specs.declared.Answer.{Answer}
+use Rattle.base.specs.declared.Granted.{Granted}
+use Rattle.base.specs.declared.refusals.Refusal.{Refusal}
+use Rattle.base.specs.Refused.{number_of, answer_of}
+use Rattle.base.proofs.RefusedLaws.{numbered}
 use Rattle.base.proofs.ChoiceLaws.{pick-by}
 use Rattle.sheet_records.specs.Sheet.{interties, holders}
 use Rattle.sheet_records.specs.Refusal.{sheet_refusal}
@@ -75,23 +79,27 @@ module _ (s : List ℕ) where
         let kw : (fresh s).answer.kw ≡ available_total (of_sheet s) = ap (λ (p : Posted). p.answer.kw) (post-done s (replicate 480 0) stands) in
         rw (stands, kw) (sym (rows-text (of_sheet s) (fresh s).lines fresh-rows))
 
-  module _ (answer : Answer) (is : answer ≡ (fresh s).answer) where
-    number : answer.refusal ≡ sheet_refusal s
-    number = ap (λ (a : Answer). a.refusal) is ∙ number_is
-
+  module _ (outcome : Result Granted Refusal) (is : answer_of outcome ≡ (fresh s).answer) where
     -- what `posting_text` leaves where the sheet is refused
-    module _ (some : answer.refusal ≢ 0) where
-      text-refused : text_of s ≡ refusal_line answer.refusal
-      unfolding text_of
-      text-refused = rw (ne_eqb (sheet_refusal s) 0 (λ z. some (number ∙ z)), number) refl
+    module _ (refusal : Refusal) (e : outcome ≡ Err refusal) where
+      number : number_of refusal ≡ sheet_refusal s
+      number = sym (ap (λ (o : Result Granted Refusal). (answer_of o).refusal) e) ∙ ap (λ (a : Answer). a.refusal) is ∙ number_is
 
-      pub refused-text : (l n : List ℕ) → l ≡ [] → n ≡ appended 12069 (bounded_line (letter_r ∷ []) blank (answer.refusal ∷ [])) l → n ≡ text_of s
-      refused-text l n empty put = short-put letter_r answer.refusal l n empty put ∙ sym text-refused
+      text-refused : text_of s ≡ refusal_line (number_of refusal)
+      unfolding text_of
+      text-refused = rw (ne_eqb (sheet_refusal s) 0 (λ z. omega (arith, numbered refusal, number ∙ z)), number) refl
+
+      pub refused-text : (figure : ℕ) (l n : List ℕ) → figure ≡ number_of refusal → l ≡ [] →
+          n ≡ appended 12069 (bounded_line (letter_r ∷ []) blank (figure ∷ [])) l → n ≡ text_of s
+      refused-text figure l n f empty put = short-put letter_r figure l n empty put ∙ ap refusal_line f ∙ sym text-refused
 
     -- and where it stands
-    module _ (none : answer.refusal ≡ 0) where
+    module _ (total : Granted) (e : outcome ≡ Ok total) where
+      total_is : total.kw ≡ (fresh s).answer.kw
+      total_is = sym (ap (λ (o : Result Granted Refusal). (answer_of o).kw) e) ∙ ap (λ (a : Answer). a.kw) is
+
       stands : sheet_refusal s ≡ 0
-      stands = sym number ∙ none
+      stands = sym number_is ∙ sym (ap (λ (a : Answer). a.refusal) is) ∙ ap (λ (o : Result Granted Refusal). (answer_of o).refusal) e
 
       -- I and H are read
       pub size_is : (n m : ℕ) → n ≡ pick (ltb (length s) 12) 0 m → n ≡ m
@@ -105,17 +113,17 @@ module _ (s : List ℕ) where
         few-holders = omega (arith, size_is H (holders s) h, (standing s stands).sizes.few-holders)
 
         module _ (numbers l t : List ℕ) (lines : numbers ≡ (fresh s).lines) (empty : l ≡ [])
-            (first : t ≡ appended 12069 (bounded_line (letter_t ∷ []) blank (answer.kw ∷ [])) l) where
+            (first : t ≡ appended 12069 (bounded_line (letter_t ∷ []) blank (total.kw ∷ [])) l) where
           pub interties-room : length t + 149 * I ≤ 12069
-          interties-room = omega (arith, ap length (short-put letter_t answer.kw l t empty first), length-short letter_t answer.kw, few-interties)
+          interties-room = omega (arith, ap length (short-put letter_t total.kw l t empty first), length-short letter_t total.kw, few-interties)
 
           module _ (a : List ℕ) (second : a ≡ t ++ each I (intertie_by_rows numbers)) where
             pub holders-room : length a + 149 * H ≤ 12069
             holders-room =
                 omega (
                   arith,
-                  ap length (short-put letter_t answer.kw l t empty first),
-                  length-short letter_t answer.kw,
+                  ap length (short-put letter_t total.kw l t empty first),
+                  length-short letter_t total.kw,
                   ap length second,
                   length-append t (each I (intertie_by_rows numbers)),
                   length-each I 149 (intertie_by_rows numbers) (intertie-few numbers),
@@ -128,9 +136,9 @@ module _ (s : List ℕ) where
             done-text b third =
                 third
                 ∙ ap (λ (u : List ℕ). u ++ each H (holder_by_rows numbers)) second
-                ∙ ap (λ (u : List ℕ). u ++ each I (intertie_by_rows numbers) ++ each H (holder_by_rows numbers)) (short-put letter_t answer.kw l t empty first)
-                ∙ ap (λ (k : ℕ). lines_text k H answer.kw numbers) (size_is I (interties s) i)
-                ∙ ap (λ (k : ℕ). lines_text (interties s) k answer.kw numbers) (size_is H (holders s) h)
-                ∙ ap (λ (n : Answer). lines_text (interties s) (holders s) n.kw numbers) is
+                ∙ ap (λ (u : List ℕ). u ++ each I (intertie_by_rows numbers) ++ each H (holder_by_rows numbers)) (short-put letter_t total.kw l t empty first)
+                ∙ ap (λ (k : ℕ). lines_text k H total.kw numbers) (size_is I (interties s) i)
+                ∙ ap (λ (k : ℕ). lines_text (interties s) k total.kw numbers) (size_is H (holders s) h)
+                ∙ ap (λ (n : ℕ). lines_text (interties s) (holders s) n numbers) total_is
                 ∙ ap (λ (u : List ℕ). lines_text (interties s) (holders s) (fresh s).answer.kw u) lines
                 ∙ sym (text-by-rows stands)

@@ -30,16 +30,18 @@ pub fn posting_text(sheet: &[u8]) -> ArrayVec<u8, TEXT_BYTES>
 {
     let mut text = ArrayVec::new();
     let mut numbers = [0u64; NUMBERS];
-    let answer = posting::post(sheet, &mut numbers);
-    if answer.refusal != 0 {
-        put_line(b"R", b' ', &[answer.refusal as u64], &mut text);
-        return text;
+    match posting::post(sheet, &mut numbers) {
+        Ok(total) => {
+            let interties = sheet_records::words::intertie_count(sheet) as usize;
+            let holders = sheet_records::words::holder_count(sheet) as usize;
+            put_line(b"T", b' ', &[total.kw], &mut text);
+            put_interties(&numbers, interties, &mut text);
+            put_holders(&numbers, holders, &mut text);
+        }
+        Err(refusal) => {
+            put_line(b"R", b' ', &[u64::from(refusal.number())], &mut text);
+        }
     }
-    let interties = sheet_records::words::intertie_count(sheet) as usize;
-    let holders = sheet_records::words::holder_count(sheet) as usize;
-    put_line(b"T", b' ', &[answer.kw], &mut text);
-    put_interties(&numbers, interties, &mut text);
-    put_holders(&numbers, holders, &mut text);
     text
 }
 
@@ -54,6 +56,7 @@ fn put_interties(numbers: &[u64; NUMBERS], interties: usize, text: &mut ArrayVec
 }
 
 // Of an intertie its number, limit, outside, E, P, N, unassigned.
+#[tactic(auto, unfolding(crate::specs::Workers::Columns::intertie_by_rows, text::specs::Lines::bounded_line))]
 fn put_intertie(numbers: &[u64; NUMBERS], intertie: usize, text: &mut ArrayVec<u8, TEXT_BYTES>)
     requires { intertie < most_interties }
     ensures { text.new.items ≡ appended text_bytes (intertie_by_rows numbers.now intertie) text.old.items }
@@ -81,6 +84,7 @@ fn put_holders(numbers: &[u64; NUMBERS], holders: usize, text: &mut ArrayVec<u8,
 }
 
 // Of a holder its number, load share, Load Share Quantity, reserved, Step 5 share.
+#[tactic(auto, unfolding(crate::specs::Workers::Columns::holder_by_rows, text::specs::Lines::bounded_line))]
 fn put_holder(numbers: &[u64; NUMBERS], holder: usize, text: &mut ArrayVec<u8, TEXT_BYTES>)
     requires { holder < most_holders }
     ensures { text.new.items ≡ appended text_bytes (holder_by_rows numbers.now holder) text.old.items }

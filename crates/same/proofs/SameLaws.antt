@@ -1,17 +1,24 @@
 -- Same says yes exactly when two sheets open to equal states, over any words.
 use Prim.Native.Nat.{ℕ, ◌+◌, ◌*◌, ◌≤◌, ◌<◌}
 use mathlib.Core.Path.{◌≡◌, refl, sym, ap, ◌∙◌}
-use mathlib.Core.Bool.{Bool, true}
+use mathlib.Core.Bool.{Bool, true, ◌&&◌}
 use mathlib.Core.Logic.{◌≢◌}
-use mathlib.Core.List.{List}
+use mathlib.Core.List.{List, [], ◌∷◌}
+use Rattle.std.specs.Prelude.{Result, Ok, Err}
 use native.Mathlib.Omega.{arith}
 use lib.Dec.{eqb}
+use lib.Pointwise.{pointwise}
 use lib.ListN.{length, replicate, length-replicate}
 use borrow.Author.Tests.{eqb-true, eq-eqb, ne_eqb}
 use Rattle.base.specs.Sums.{all_to}
 use Rattle.base.specs.Words.{at}
 use Rattle.base.specs.declared.Answer.{Answer}
+use Rattle.base.specs.declared.Granted.{Granted}
+use Rattle.base.specs.declared.refusals.Refusal.{Refusal}
+use Rattle.base.specs.Refused.{number_of, number_in, answer_of}
+use Rattle.base.proofs.RefusedLaws.{numbered}
 use Rattle.base.proofs.SumLaws.{all_to-each, all_to-all}
+use Rattle.base.proofs.ListLaws.{all_to-first}
 use Rattle.base.specs.Limits.{state_words}
 use Rattle.sheet_records.specs.Refusal.{sheet_refusal}
 use Rattle.steps.specs.Inputs.{Inputs, of_sheet}
@@ -102,19 +109,41 @@ pub both-stand : (first second : List ℕ) → sheet_refusal first ≡ 0 → she
 unfolding compared
 both-stand first second e f = rw (e, f) refl
 
+-- the number in an answer
+answered : (o : Result Granted Refusal) → (answer_of o).refusal ≡ number_in o
+answered (Ok granted) = refl
+answered (Err refusal) = refl
+
 -- what an opening over 16,000 zeros says of its sheet
-module _ (sheet after : List ℕ) (answer : Answer) (r : answer ≡ (opened sheet (replicate 16000 0)).answer) (e : after ≡ (opened sheet (replicate 16000 0)).state) where
-  pub number_is : answer.refusal ≡ sheet_refusal sheet
-  number_is = ap (λ (a : Answer). a.refusal) r ∙ whole-number sheet (replicate 16000 0) zeros-long
+module _ (sheet after : List ℕ) (outcome : Result Granted Refusal) (r : answer_of outcome ≡ (opened sheet (replicate 16000 0)).answer)
+    (e : after ≡ (opened sheet (replicate 16000 0)).state) where
+  number_is : number_in outcome ≡ sheet_refusal sheet
+  number_is = sym (answered outcome) ∙ ap (λ (a : Answer). a.refusal) r ∙ whole-number sheet (replicate 16000 0) zeros-long
 
-  pub year-is : answer.refusal ≡ 0 → after ≡ year_of sheet
+  pub open-refuses : (refusal : Refusal) → outcome ≡ Err refusal → (number_of refusal ≡ sheet_refusal sheet) × (sheet_refusal sheet ≢ 0)
+  open-refuses refusal is =
+      let number : number_of refusal ≡ sheet_refusal sheet = sym (ap number_in is) ∙ number_is in
+      (number, λ zero. omega (arith, numbered refusal, number))
+
+  pub open-stands : (total : Granted) → outcome ≡ Ok total → (sheet_refusal sheet ≡ 0) × (after ≡ year_of sheet)
   unfolding year_of
-  year-is zero = e ∙ ap (λ (o : Outcome). o.state) (open-granted sheet (replicate 16000 0) (sym number_is ∙ zero) zeros-long)
+  open-stands total is =
+      let stands : sheet_refusal sheet ≡ 0 = sym number_is ∙ ap number_in is in
+      (stands, e ∙ ap (λ (o : Outcome). o.state) (open-granted sheet (replicate 16000 0) stands zeros-long))
 
-pub words-decide : (first second a b : List ℕ) (r : Bool) → a ≡ year_of first → b ≡ year_of second → length a ≡ 16000 →
-    r ≡ all_to (length a) (λ p. eqb (at a p) (at b p)) → r ≡ open_alike first second
+-- lists of one length are the same where each word is
+words-same : (a b : List ℕ) → length b ≡ length a → pointwise eqb a b ≡ all_to (length a) (λ p. eqb (at a p) (at b p))
+unfolding all_to
+words-same [] [] e = refl
+words-same [] (y ∷ b) e = absurd (omega arith)
+words-same (x ∷ a) [] e = absurd (omega arith)
+words-same (x ∷ a) (y ∷ b) e =
+    ap (λ t. eqb x y && t) (words-same a b (omega arith)) ∙ sym (all_to-first (length a) (λ p. eqb (at (x ∷ a) p) (at (y ∷ b) p)))
+
+pub words-decide : (first second a b : List ℕ) (r : Bool) → a ≡ year_of first → b ≡ year_of second → length a ≡ 16000 → length b ≡ 16000 →
+    r ≡ pointwise eqb a b → r ≡ open_alike first second
 unfolding open_alike
-words-decide first second a b r e f long d =
-    d ∙ ap (λ n. all_to n (λ p. eqb (at a p) (at b p))) long
+words-decide first second a b r e f long wide d =
+    d ∙ words-same a b (wide ∙ sym long) ∙ ap (λ n. all_to n (λ p. eqb (at a p) (at b p))) long
     ∙ ap (λ l. all_to state_words (λ p. eqb (at l p) (at b p))) e
     ∙ ap (λ l. all_to state_words (λ p. eqb (at (year_of first) p) (at l p))) f

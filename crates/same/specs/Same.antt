@@ -1,10 +1,12 @@
 -- Same (docs/RULES.md, "Beside the year"): yes, else no, exactly when two sheets open to equal states (all named words), with 0 kW and
 -- 0 passes; the first's refusal comes before the second's.
-use Rattle.std.specs.Prelude.{ℕ, List, Bool, false, eqb, replicate}
+use Rattle.std.specs.Prelude.{ℕ, List, Bool, false, eqb, replicate, Result, Ok, Err}
 use Rattle.base.specs.Choice.{pick}
 use Rattle.base.specs.Sums.{all_to}
 use Rattle.base.specs.Words.{at}
 use Rattle.base.specs.Limits.{state_words}
+use Rattle.base.specs.Refused.{number_of}
+use Rattle.base.specs.declared.refusals.Refusal.{Refusal}
 use Rattle.sheet_records.specs.Refusal.{sheet_refusal}
 use Rattle.steps.specs.Inputs.{of_sheet}
 use Rattle.opening.specs.Opened.{opened_state}
@@ -25,6 +27,11 @@ refused_verdict number = record { refusal = number; same = false; kw = 0; passes
 -- both stand: yes or no
 abbrev pub verdict : Bool → Verdict
 verdict alike = record { refusal = 0; same = alike; kw = 0; passes = 0 }
+
+-- the verdict that an outcome is
+abbrev pub verdict_of : Result Bool Refusal → Verdict
+verdict_of (Ok alike) = verdict alike
+verdict_of (Err refusal) = refused_verdict (number_of refusal)
 
 -- the call
 unfoldable pub compared : List ℕ → List ℕ → Verdict

@@ -1,14 +1,14 @@
 // Same: whether two sheets open to the same year (docs/RULES.md, "Beside the year").
 #![tactic(auto)]
 
-ghost use Rattle.std.specs.Prelude.{◌≡◌, ℕ, ◌<◌, eqb, length};
-ghost use Rattle.base.specs.Sums.{all_to};
-ghost use Rattle.base.specs.Words.{at};
-ghost use Rattle.same.specs.Same.{refused_verdict, verdict, compared};
+ghost use Rattle.std.specs.Prelude.{◌≡◌};
+ghost use Rattle.same.specs.Same.{verdict_of, compared};
 
 use base::limits::STATE_WORDS;
+use base::refusals::Refusal;
 
-// A refusal's number, or 0 and whether the sheets open alike. No kW, no passes.
+// A refusal's number, or 0 and whether the sheets open alike. No kW, no passes. (C reads these words; a call in Rattle
+// answers a Result.)
 #[repr(C)]
 #[derive(Clone, Copy)]
 pub struct Verdict {
@@ -18,57 +18,35 @@ pub struct Verdict {
     pub passes: u64,
 }
 
-// The verdict on a sheet that is refused.
-fn refused(number: u32) -> Verdict
-    ensures { result ≡ refused_verdict number }
-{
-    Verdict {
-        refusal: number,
-        same: false,
-        kw: 0,
-        passes: 0,
-    }
-}
+// The verdict that an outcome is for those who link the library.
+impl From<Result<bool, Refusal>> for Verdict {
+    ghost from_gives = { λ outcome verdict. verdict ≡ verdict_of outcome };
 
-// The verdict on two sheets that stand.
-fn decided(same: bool) -> Verdict
-    ensures { result ≡ verdict same }
-{
-    Verdict {
-        refusal: 0,
-        same,
-        kw: 0,
-        passes: 0,
-    }
-}
-
-// Whether two lists have the same words.
-fn equal_words(first: &[u32], second: &[u32]) -> bool
-    requires { length second.now ≡ length first.now }
-    ensures { let n = length first.now in
-        result ≡ all_to n (λ (p : ℕ). eqb (at first.now p) (at second.now p)) }
-{
-    for p in 0..first.len() {
-        if first[p] != second[p] {
-            return false;
+    fn from(outcome: Result<bool, Refusal>) -> Verdict {
+        match outcome {
+            Ok(alike) => Verdict {
+                refusal: 0,
+                same: alike,
+                kw: 0,
+                passes: 0,
+            },
+            Err(refusal) => Verdict {
+                refusal: refusal.number(),
+                same: false,
+                kw: 0,
+                passes: 0,
+            },
         }
     }
-    true
 }
 
 // Says whether two sheets open to equal states, or refuses the first or the second.
-pub fn same(first: &[u8], second: &[u8]) -> Verdict
-    ensures { result ≡ compared first.now second.now }
+pub fn same(first: &[u8], second: &[u8]) -> Result<bool, Refusal>
+    ensures { verdict_of result ≡ compared first.now second.now }
 {
     let mut one = [0u32; STATE_WORDS];
-    let opened = opening::open(first, &mut one);
-    if opened.refusal != 0 {
-        return refused(opened.refusal);
-    }
+    opening::open(first, &mut one)?;
     let mut other = [0u32; STATE_WORDS];
-    let again = opening::open(second, &mut other);
-    if again.refusal != 0 {
-        return refused(again.refusal);
-    }
-    decided(equal_words(&one, &other))
+    opening::open(second, &mut other)?;
+    Ok(one == other)
 }

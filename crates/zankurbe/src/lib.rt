@@ -90,7 +90,7 @@ pub extern "C" fn zankurbe_post(sheet: &[u8], lines: &mut [u64; NUMBERS]) -> Ans
     ensures { let posting = posted sheet.now lines.old in
         (result ≡ posting.answer) × (lines.new ≡ posting.lines) }
 {
-    posting::post(sheet, lines)
+    Answer::from(posting::post(sheet, lines))
 }
 
 // Says whether two sheets open to equal states, or refuses the first or the second.
@@ -98,7 +98,7 @@ pub extern "C" fn zankurbe_post(sheet: &[u8], lines: &mut [u64; NUMBERS]) -> Ans
 pub extern "C" fn zankurbe_same(first: &[u8], second: &[u8]) -> Verdict
     ensures { result ≡ compared first.now second.now }
 {
-    same::same(first, second)
+    Verdict::from(same::same(first, second))
 }
 
 // Trades unplaced kW from one holder to another (stage 1).

@@ -1,24 +1,25 @@
 -- `same` meets its contract: the first sheet is refused, the second is, or their words decide (`SameLaws`).
 use Rattle.base.proofs.Prelude.{sym, ap, ◌∙◌, rules}
+use Rattle.std.proofs.lemmas.Result.{err_from_is_err_and}
 use Rattle.same.specs.Same.{refused_verdict, verdict}
-use Rattle.same.proofs.SameLaws.{number_is, year-is, words-decide, first-refused, second-refused, both-stand}
+use Rattle.same.proofs.SameLaws.{open-refuses, open-stands, words-decide, first-refused, second-refused, both-stand}
 use Rattle.same.proofs.same.Goals as goal
 
-pub returns-then-opened-ne0 : goal.returns-then-opened-ne0
-returns-then-opened-ne0 c =
-    let n = number_is _ _ _ c.open-opened.ensures.0 c.open-opened.ensures.1 in
-    c.refused.ensures ∙ ap refused_verdict n ∙ sym (first-refused _ _ (λ e. c.if-opened-ne0.true (n ∙ e)))
+pub returns-in_err-open : goal.returns-in_err-open
+returns-in_err-open c =
+    let o = open-refuses _ _ _ c.open.ensures.0 c.open.ensures.1 _ c.in_err-open.was in
+    let p = err_from_is_err_and c.from_residual.result c.from_residual.ensures.1 in
+    rw (p.1, p.2) (ap refused_verdict o.0 ∙ sym (first-refused _ _ o.1))
 
-pub returns-then-again-ne0 : goal.returns-then-again-ne0
-returns-then-again-ne0 c =
-    let m = number_is _ _ _ c.open-opened.ensures.0 c.open-opened.ensures.1 in
-    let n = number_is _ _ _ c.open-again.ensures.0 c.open-again.ensures.1 in
-    c.refused-then-again-ne0.ensures ∙ ap refused_verdict n ∙ sym (second-refused _ _ (sym m ∙ c.if-opened-ne0.false) (λ e. c.if-again-ne0.true (n ∙ e)))
+pub returns-in_err-open-2 : goal.returns-in_err-open-2
+returns-in_err-open-2 c =
+    let s = open-stands _ _ _ c.open.ensures.0 c.open.ensures.1 _ c.in_ok-open.was in
+    let o = open-refuses _ _ _ c.open-2.ensures.0 c.open-2.ensures.1 _ c.in_err-open-2.was in
+    let p = err_from_is_err_and c.from_residual-in_err-open-2.result c.from_residual-in_err-open-2.ensures.1 in
+    rw (p.1, p.2) (ap refused_verdict o.0 ∙ sym (second-refused _ _ s.0 o.1))
 
 pub returns : goal.returns
 returns c =
-    let m = number_is _ _ _ c.open-opened.ensures.0 c.open-opened.ensures.1 in
-    let n = number_is _ _ _ c.open-again.ensures.0 c.open-again.ensures.1 in
-    c.decided.ensures
-    ∙ ap verdict (words-decide _ _ _ _ _ (year-is _ _ _ c.open-opened.ensures.0 c.open-opened.ensures.1 c.if-opened-ne0.false) (year-is _ _ _ c.open-again.ensures.0 c.open-again.ensures.1 c.if-again-ne0.false) (search rules) c.equal_words.ensures)
-    ∙ sym (both-stand _ _ (sym m ∙ c.if-opened-ne0.false) (sym n ∙ c.if-again-ne0.false))
+    let s = open-stands _ _ _ c.open.ensures.0 c.open.ensures.1 _ c.in_ok-open.was in
+    let t = open-stands _ _ _ c.open-2.ensures.0 c.open-2.ensures.1 _ c.in_ok-open-2.was in
+    ap verdict (words-decide _ _ _ _ _ s.1 t.1 (search rules) (search rules) c.eq.ensures) ∙ sym (both-stand _ _ s.0 t.0)
