@@ -29,21 +29,20 @@ pub fn answers_text(answers: &[u64], text: &mut ArrayVec<u8, TEXT_BYTES>)
 {
     text.clear();
     let (answers, _) = answers.as_chunks::<ANSWER_WORDS>();
-    for n in 0..answers.len().min(MOST_ANSWERS) {
-        put_answer(&answers[n], text);
+    for answer in &answers[..answers.len().min(MOST_ANSWERS)] {
+        put_answer(answer, text);
     }
 }
 
 // An answer: its refusal, or `ok`, its kW and its passes.
+#[tactic(auto, unfolding(crate::specs::Text::answer_line, text::specs::Lines::bounded_line))]
 fn put_answer(answer: &[u64; ANSWER_WORDS], text: &mut ArrayVec<u8, TEXT_BYTES>)
     ensures { let a = answer.now in
         text.new.items ≡ appended text_bytes (answer_line (at a 0) (at a 1) (at a 2)) text.old.items }
 {
-    let [refusal, kw, passes] = *answer;
-    if refusal != 0 {
-        put_line(b"R", b' ', &[refusal], text);
-    } else {
-        put_line(b"ok", b' ', &[kw, passes], text);
+    match *answer {
+        [0, kw, passes] => put_line(b"ok", b' ', &[kw, passes], text),
+        [refusal, ..] => put_line(b"R", b' ', &[refusal], text),
     }
 }
 
@@ -59,12 +58,13 @@ pub fn grants_text(
     if interties == 0 {
         return;
     }
-    for word in 0..GRANTS_WORDS {
-        put_grant(word / interties, word % interties, grants[word], text);
+    for (word, kw) in grants.iter().enumerate() {
+        put_grant(word / interties, word % interties, *kw, text);
     }
 }
 
 // A grant, where it is not 0.
+#[tactic(auto, unfolding(crate::specs::Text::grant_line, text::specs::Lines::bounded_line))]
 fn put_grant(holder: usize, intertie: usize, kw: u32, text: &mut ArrayVec<u8, TEXT_BYTES>)
     ensures { text.new.items ≡ appended text_bytes (grant_line holder intertie kw) text.old.items }
 {
@@ -86,6 +86,7 @@ pub fn interties_text(state: &[u32; STATE_WORDS], text: &mut ArrayVec<u8, TEXT_B
 }
 
 // The figures of an intertie.
+#[tactic(auto, unfolding(crate::specs::Text::intertie_line, text::specs::Lines::bounded_line))]
 fn put_intertie(state: &[u32; STATE_WORDS], intertie: u32, text: &mut ArrayVec<u8, TEXT_BYTES>)
     ensures { text.new.items ≡ appended text_bytes (intertie_line state.now intertie) text.old.items }
 {
@@ -125,6 +126,7 @@ pub fn holders_text(
 }
 
 // The figures of a holder.
+#[tactic(auto, unfolding(crate::specs::Text::holder_line, text::specs::Lines::bounded_line))]
 fn put_holder(
     state: &[u32; STATE_WORDS],
     called: Called<'_>,

@@ -4,5 +4,5 @@ use Rattle.text.specs.Lines.{each}
 use Rattle.year_text.specs.Text.{answer_of}
 use Rattle.year_text.proofs.answers_text.Given as goal
 
-abbrev pub invariant-loop-n : goal.invariant-loop-n
-invariant-loop-n l = l.text.items ≡ each l.n (answer_of l.fn.answers)
+abbrev pub invariant-loop-answer : goal.invariant-loop-answer
+invariant-loop-answer l = l.text.items ≡ each l.answer-index (answer_of l.fn.answers)
