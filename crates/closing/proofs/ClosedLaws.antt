@@ -1,7 +1,8 @@
 -- What a closing leaves in the state, from what its workers leave, and what it answers.
-use Prim.Native.Nat.{ℕ, ◌+◌, ◌-◌, ◌*◌, ◌%◌, ◌≤◌, ◌<◌}
+use Prim.Native.Nat.{ℕ, ◌+◌, ◌-◌, ◌*◌, ◌%◌, ◌^◌, ◌≤◌, ◌<◌}
 use mathlib.Core.Path.{◌≡◌, refl, sym, ap, ◌∙◌}
 use mathlib.Core.List.{List}
+use native.Mathlib.Nat.{mod-eq_of_lt}
 use native.Mathlib.Omega.{arith}
 use lib.ListN.{length, set}
 use Rattle.base.specs.Choice.{pick}
@@ -23,6 +24,7 @@ use Rattle.state_rows.proofs.FitLaws.{cleared-pairs}
 use Rattle.closing.specs.Close.{close_refusal, close_grant, close_kw, close_passes, granted_to, granted_on, close_state, close_grants, close}
 use Rattle.closing.specs.Workers.Work.{Closable, Grants, Written}
 use Rattle.closing.proofs.CloseLaws.{close-done, close-granted, close-refused}
+use Rattle.closing.proofs.GrantLaws.{granted-to-most}
 use Rattle.closing.proofs.SharingLaws.{at-read, length-read}
 use Rattle.closing.proofs.StoreLaws.{stored_row, raised-pairs}
 
@@ -36,13 +38,15 @@ module _ (s table : List ℕ) (g : Grants s table) where
       ∙ ap (λ x. x - sum_to H (λ h. at_pair table h i)) (at-read s n read 104 i r (omega arith))
       ∙ rw f (ap (λ x. unassigned_of s i - x) (sum_to-same (holders s) (λ h. at_pair table h i) (λ h. close_grant s h i) (λ h k. g.pairs h i k l)))
 
-  pub unplaced-left : (n I : ℕ) (read after : List ℕ) → holders s ≤ n → I ≡ interties s → read ≡ tab n (λ c. at s (place 105 c)) →
-      after ≡ tab (length read) (λ h. at read h - sum_to I (λ i. at_pair table h i)) → (h : ℕ) → h < holders s → at after h ≡ unplaced_of s h - granted_to s h
-  unplaced-left n I read after low f r e h k =
+  pub unplaced-left : Orderly s → (n I : ℕ) (read after : List ℕ) → holders s ≤ n → I ≡ interties s → read ≡ tab n (λ c. at s (place 105 c)) →
+      after ≡ tab (length read) (λ h. at read h - sum_to I (λ i. at_pair table h i) % 2 ^ 64) → (h : ℕ) → h < holders s → at after h ≡ unplaced_of s h - granted_to s h
+  unplaced-left o n I read after low f r e h k =
+      let granted : sum_to (interties s) (λ i. at_pair table h i) ≡ granted_to s h =
+      sum_to-same (interties s) (λ i. at_pair table h i) (λ i. close_grant s h i) (λ i l. g.pairs h i k l) in
       ap (λ l. at l h) e
       ∙ at-tab (length read) _ h (omega (arith, length-read s n read 105 r))
-      ∙ ap (λ x. x - sum_to I (λ i. at_pair table h i)) (at-read s n read 105 h r (omega arith))
-      ∙ rw f (ap (λ x. unplaced_of s h - x) (sum_to-same (interties s) (λ i. at_pair table h i) (λ i. close_grant s h i) (λ i l. g.pairs h i k l)))
+      ∙ ap (λ x. x - sum_to I (λ i. at_pair table h i) % 2 ^ 64) (at-read s n read 105 h r (omega arith))
+      ∙ rw (f, granted) (ap (λ x. unplaced_of s h - x) (mod-eq_of_lt (omega (arith, granted-to-most s o h k, unplaced-most o h k))))
 
 -- the state, store by store
 pub state-is : (s unassigned unplaced table t1 t2 t3 t4 t5 : List ℕ) (I H stage : ℕ) → 16000 ≤ length s → Orderly s → Grants s table → Written s unassigned unplaced →

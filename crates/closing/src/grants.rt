@@ -57,7 +57,8 @@ impl Closing<'_> {
         rows::read_rows(self.state, layout::UNPLACED, row);
         for (holder, unplaced) in row.iter_mut().enumerate() {
             let from = ROW_WORDS * holder;
-            *unplaced = vectors::left_of(*unplaced, &self.table[from..from + interties]);
+            let granted = vectors::sum_of(&self.table[from..from + interties]);
+            *unplaced = unplaced.saturating_sub(granted);
         }
     }
 }
