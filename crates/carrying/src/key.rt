@@ -3,14 +3,14 @@ ghost use Rattle.std.specs.Prelude.{◌≡◌};
 ghost use Rattle.carrying.specs.Lines.{yearless, goes_on, next_years, next_line};
 ghost use Rattle.carrying.specs.Workers.Draft.{line_key};
 
-use base::kinds;
+use base::kinds::Kind;
 use sheet_keys::key;
 
 // Whether a key is of kind 1, 2 or 3, which have no years.
 fn yearless(key: u32) -> bool
     ensures { result ≡ yearless key }
 {
-    key::kind(key) <= kinds::LOAD_SHARE
+    key::kind(key) <= Kind::LoadShare as u32
 }
 
 // Whether a record goes on into the next year.

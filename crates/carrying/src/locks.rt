@@ -9,7 +9,7 @@ ghost use Rattle.carrying.specs.Lines.{with_lock, with_locks_of, with_locks};
 ghost use Rattle.carrying.specs.Workers.Draft.{places, Drafted, Bounded};
 
 use crate::records::PLACES;
-use base::kinds;
+use base::kinds::Kind;
 use base::limits::MOST_RANK;
 use sheet_keys::key;
 use sheet_keys::key::HOLDERS;
@@ -37,7 +37,7 @@ fn add_lock(
     }
     let term = state::pair_word(state, layout::TERM, holder, intertie);
     let rank = ranks[holder as usize] + 1;
-    keys[place] = key::pack(kinds::NEW_USE_COMMITMENT, holder, intertie, rank, term);
+    keys[place] = key::pack(Kind::NewUseCommitment as u32, holder, intertie, rank, term);
     kws[place] = locked;
     ranks[holder as usize] = rank;
     place + 1

@@ -9,7 +9,8 @@ ghost use Rattle.carrying.specs.Lines.{next_line, kept_of, kept, rank_for};
 ghost use Rattle.carrying.specs.Workers.Draft.{places, Drafted};
 
 use crate::key;
-use base::{kinds, limits};
+use base::kinds::Kind;
+use base::limits;
 use sheet_keys::key::HOLDERS;
 use sheet_records::reader;
 
@@ -20,7 +21,7 @@ pub(crate) const PLACES: usize = limits::MOST_RECORDS + limits::MOST_PAIRS;
 fn raised(rank: u32, key: u32) -> u32
     ensures { result ≡ max rank (rank_for (holder_of key) (next_line key 0)) }
 {
-    if sheet_keys::key::kind(key) != kinds::NEW_USE_COMMITMENT {
+    if sheet_keys::key::kind(key) != Kind::NewUseCommitment as u32 {
         return rank;
     }
     let other = sheet_keys::key::rank(key);
