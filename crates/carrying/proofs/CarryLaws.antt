@@ -1,18 +1,11 @@
 -- The call by cases: refused by 1 to 7, refused by 14, or carried.
-use Prim.Native.Nat.{ℕ, ◌≤◌, ◌<◌}
-use mathlib.Core.Path.{◌≡◌, refl, sym, ap, ◌∙◌}
-use mathlib.Core.Bool.{Bool, true, false, ◌&&◌, ◌||◌, not}
-use mathlib.Core.Logic.{◌≢◌}
-use mathlib.Core.List.{List}
-use lib.Dec.{eqb, ltb, leb}
-use lib.ListN.{length, take}
-use borrow.Author.Tests.{ne_eqb, le-ltb, ltb-false, not-false}
+use Rattle.std.proofs.Common.{ℕ, ◌≤◌, ◌<◌, arith, ◌≡◌, refl, sym, ap, ◌∙◌, Bool, true, false, ◌&&◌, ◌||◌, not, ◌≢◌, List, eqb, ltb, length, ne_eqb, le-ltb}
 use Rattle.base.specs.Choice.{pick}
-use Rattle.base.specs.Sums.{all_to}
 use Rattle.base.specs.Words.{at}
 use Rattle.base.specs.Answers.{refused, granted}
-use Rattle.base.specs.declared.Answer.{Answer}
-use Rattle.base.proofs.ChoiceLaws.{or_left, or_right}
+use Rattle.base.specs.declared.refusals.Refusal.{Refusal}
+use Rattle.base.specs.Refused.{number_of}
+use Rattle.base.proofs.RefusedLaws.{numbered}
 use Rattle.sheet_records.specs.Sheet as Sheet
 use Rattle.sheet_records.specs.Sheet.{size_of}
 use Rattle.sheet_records.specs.Bytes.{sheet_bytes, with_sheet}
@@ -21,16 +14,19 @@ use Rattle.sheet_reading.proofs.SheetLaws.{conditions, standing, first-words}
 use Rattle.state.specs.Layout as Layout
 use Rattle.state.specs.Orderly.{state_refusal}
 use Rattle.state.proofs.OrderlyLaws.{Orderly, refusal-none}
-use Rattle.call.specs.Outcome.{or_else, whenever}
-use Rattle.base.specs.Stages.{open_stage}
-use Rattle.base.specs.Refusals.{stage_refused}
 use Rattle.call.proofs.LadderLaws.{none_first, none-second}
 use Rattle.carrying.specs.Line.{Line}
-use Rattle.carrying.specs.Lines.{highest, next_lines}
+use Rattle.carrying.specs.Lines.{kept, with_locks, next_lines}
 use Rattle.carrying.specs.NewSheet.{new_sheet}
-use Rattle.carrying.specs.Carry.{early_refusal, sizes_differ, does_not_fit, carry_refusal, Carried, carried}
-use Rattle.carrying.specs.Workers.Draft.{Drafted}
-use Rattle.carrying.proofs.FitLaws.{lines_fit, keys-same, kws-same, fit_same}
+use Rattle.carrying.specs.Carry.{early_refusal, sizes_differ, does_not_fit, carry_refusal, carried}
+use Rattle.carrying.specs.Workers.Draft.{Drafted, DraftOf, Adds}
+use Rattle.carrying.proofs.DraftLaws.{draft-few}
+use Rattle.carrying.proofs.FitLaws.{lines_fit, keys_same, fitting}
+
+-- not both of two tests
+not-both : (a b : Bool) → not a || not b ≡ not (a && b)
+not-both true b = refl
+not-both false b = refl
 
 -- what refusals 1 to 7 let pass
 module _ (sheet state : List ℕ) (e : early_refusal sheet state ≡ 0) where
@@ -54,83 +50,60 @@ module _ (sheet state : List ℕ) (e : early_refusal sheet state ≡ 0) where
   -- the sizes as they are read
   pub sizes-read : (i h I H : ℕ) →
       i ≡ pick (ltb (length sheet) 12) 0 (Sheet.interties sheet) → h ≡ pick (ltb (length sheet) 12) 0 (Sheet.holders sheet) →
-      I ≡ Layout.interties state → H ≡ Layout.holders state → not (eqb i I && eqb h H) ≡ sizes_differ sheet state
+      I ≡ Layout.interties state → H ≡ Layout.holders state → not (eqb i I) || not (eqb h H) ≡ sizes_differ sheet state
   unfolding sizes_differ
-  sizes-read i h I H ei eh eI eH = rw (ei, eh, eI, eH, size-there) refl
+  sizes-read i h I H ei eh eI eH = rw (ei, eh, eI, eH, size-there) (not-both (eqb (Sheet.interties sheet) (Layout.interties state)) (eqb (Sheet.holders sheet) (Layout.holders state)))
 
 module _ (sheet state output : List ℕ) where
-  abbrev stays : ℕ → Carried
-  stays number = record { answer = refused number; output = output }
-
   abbrev lines : List Line
   lines = next_lines sheet state
 
-  by_number : carry_refusal sheet state output ≢ 0 → carried sheet state output ≡ stays (carry_refusal sheet state output)
+  -- what a call that is refused with a number answers, and the output as it was
+  abbrev Refused : ℕ → Type 0
+  Refused number = (refused number ≡ (carried sheet state output).answer) × (output ≡ (carried sheet state output).output)
+
+  refused_by : (number : ℕ) → number ≢ 0 → number ≡ carry_refusal sheet state output → Refused number
   unfolding carried
-  by_number ne = rw (ne_eqb (carry_refusal sheet state output) 0 ne) refl
+  refused_by number some e = (rw (← e, ne_eqb number 0 some) refl, rw (← e, ne_eqb number 0 some) refl)
 
-  -- a refusal's answer, and the output as it was
-  module _ (number : ℕ) (some : number ≢ 0) (is : carry_refusal sheet state output ≡ number) (r : Answer) (a : r ≡ refused number) where
-    pub answers-refused : (r ≡ (carried sheet state output).answer) × (output ≡ (carried sheet state output).output)
-    answers-refused =
-        let o : carried sheet state output ≡ stays number = by_number (λ z. some (sym is ∙ z)) ∙ ap stays is in
-        (a ∙ sym (ap (λ (x : Carried). x.answer) o), sym (ap (λ (x : Carried). x.output) o))
-
-  pub number-early : (number : ℕ) → number ≡ early_refusal sheet state → number ≢ 0 → carry_refusal sheet state output ≡ number
+  -- by 1 to 7
+  pub refused_early : (refusal : Refusal) → number_of refusal ≡ early_refusal sheet state → Refused (number_of refusal)
   unfolding carry_refusal
-  number-early number e some = rw (← e, ne_eqb number 0 some) refl
+  refused_early refusal e =
+      let some : number_of refusal ≢ 0 = λ z. omega (arith, numbered refusal) in
+      refused_by (number_of refusal) some (rw (← e, ne_eqb (number_of refusal) 0 some) refl)
 
-  module _ (early : early_refusal sheet state ≡ 0) where
-    pub number-sizes : sizes_differ sheet state ≡ true → carry_refusal sheet state output ≡ 14
+  -- and by 14, where the sizes differ
+  pub refused_sizes : (differ : Bool) → 0 ≡ early_refusal sheet state → differ ≡ sizes_differ sheet state → differ ≡ true → Refused 14
+  unfolding carry_refusal
+  refused_sizes differ early e t = refused_by 14 (omega arith) (rw (← early, ← e, t) refl)
+
+  -- a draft of what goes on and of the locks, with b for what its test gave
+  module _ (early : early_refusal sheet state ≡ 0) (same : sizes_differ sheet state ≡ false)
+      (kept_draft d : Drafted) (of : DraftOf (kept sheet (Sheet.count sheet)) kept_draft) (adds : Adds (with_locks state (Layout.holders state)) kept_draft d)
+      (H : ℕ) (eH : H ≡ Layout.holders state) (b : Bool) (eb : (l : List Line) → DraftOf l d → b ≡ does_not_fit H l (length output)) where
+    drafted : DraftOf lines d
+    unfolding next_lines
+    drafted = adds (kept sheet (Sheet.count sheet)) of
+
+    test-is : b ≡ does_not_fit (Layout.holders state) lines (length output)
+    test-is = eb lines drafted ∙ ap (λ (k : ℕ). does_not_fit k lines (length output)) eH
+
+    pub refused_unfit : b ≡ true → Refused 14
     unfolding carry_refusal
-    number-sizes t = rw (early, t) refl
+    refused_unfit t = refused_by 14 (omega arith) (rw (early, same, ← test-is, t) refl)
 
-    module _ (same : sizes_differ sheet state ≡ false) where
-      pub number-unfit : does_not_fit (Layout.holders state) lines (length output) ≡ true → carry_refusal sheet state output ≡ 14
-      unfolding carry_refusal
-      number-unfit t = rw (early, same, t) refl
+    pub draft-fits : b ≡ false → (length d.keys ≤ 1024) × (size_of (length d.keys) ≤ length output)
+    draft-fits f =
+        let fits = fitting (Layout.holders state) lines (length output) (sym test-is ∙ f) in
+        rw (draft-few lines d drafted) (fits.0, fits.2)
 
-      number-none : does_not_fit (Layout.holders state) lines (length output) ≡ false → carry_refusal sheet state output ≡ 0
-      unfolding carry_refusal
-      number-none f = rw (early, same, f) refl
-
-      -- a draft of the lines, with b for what its test gave
-      module _ (keys kws ranks : List ℕ) (n : ℕ) (d : Drafted keys kws ranks n lines) (H : ℕ) (eH : H ≡ Layout.holders state) (b : Bool)
-          (eb : b ≡ (ltb 1024 n || not (all_to H (λ h. leb (at ranks h) 255)) || ltb (length output) (size_of n))) where
-        test-is : b ≡ does_not_fit (Layout.holders state) lines (length output)
-        test-is =
-            let o = state-stands sheet state early in
-            eb ∙ ap (λ (k : ℕ). ltb 1024 n || not (all_to k (λ h. leb (at ranks h) 255)) || ltb (length output) (size_of n)) eH
-            ∙ fit_same keys kws ranks n lines d (Layout.holders state) (length output) o.holders-most
-
-        pub draft-unfit : b ≡ true → carry_refusal sheet state output ≡ 14
-        draft-unfit t = number-unfit (sym test-is ∙ t)
-
-        -- what a test that passed says
-        pub draft-few : b ≡ false → n ≤ 1024
-        draft-few f =
-            ltb-false 1024 n (or_left (ltb 1024 n) (not (all_to H (λ h. leb (at ranks h) 255)))
-            (or_left (ltb 1024 n || not (all_to H (λ h. leb (at ranks h) 255))) (ltb (length output) (size_of n)) (sym eb ∙ f)))
-
-        pub draft-room : b ≡ false → size_of n ≤ length output
-        draft-room f =
-            ltb-false (length output) (size_of n)
-            (or_right (ltb 1024 n || not (all_to H (λ h. leb (at ranks h) 255))) (ltb (length output) (size_of n)) (sym eb ∙ f))
-
-        low-ranks : b ≡ false → all_to (Layout.holders state) (λ h. leb (highest h lines) 255) ≡ true
-        unfolding does_not_fit
-        low-ranks f =
-            let ranks : Bool = all_to (Layout.holders state) (λ h. leb (highest h lines) 255) in
-            not-false ranks
-            (or_right (ltb 1024 (length lines)) (not ranks)
-            (or_left (ltb 1024 (length lines) || not ranks) (ltb (length output) (size_of (length lines))) (sym test-is ∙ f)))
-
-        pub draft-written : (I : ℕ) (written : List ℕ) (r : Answer) → b ≡ false → ((i : ℕ) → at sheet i < 256) → I ≡ Layout.interties state →
-            written ≡ with_sheet (sheet_bytes I H (take n keys) (take n kws)) output → r ≡ granted 0 0 →
-            (r ≡ (carried sheet state output).answer) × (written ≡ (carried sheet state output).output)
-        unfolding carried new_sheet
-        draft-written I written r f bytes eI ew er =
-            let fit = lines_fit state (state-stands sheet state early) sheet bytes in
-            let keyed = keys-same (Layout.holders state) lines fit (low-ranks f) keys kws ranks n d (draft-few f) in
-            let filled = kws-same (Layout.holders state) lines fit (low-ranks f) keys kws ranks n d (draft-few f) in
-            rw (number-none (sym test-is ∙ f)) (er, ew ∙ rw (eI, eH, keyed, filled) refl)
+    pub draft-written : (I : ℕ) (written : List ℕ) → b ≡ false → ((i : ℕ) → at sheet i < 256) → I ≡ Layout.interties state →
+        written ≡ with_sheet (sheet_bytes I H d.keys d.kws) output →
+        (granted 0 0 ≡ (carried sheet state output).answer) × (written ≡ (carried sheet state output).output)
+    unfolding carried carry_refusal new_sheet
+    draft-written I written f bytes eI ew =
+        let lines-low = lines_fit state (state-stands sheet state early) sheet bytes in
+        let low = (fitting (Layout.holders state) lines (length output) (sym test-is ∙ f)).1 in
+        let keyed = drafted.keys-are ∙ keys_same (Layout.holders state) lines lines-low low in
+        rw (early, same, ← test-is, f) (refl, ew ∙ rw (eI, eH, keyed, drafted.kws-are) refl)

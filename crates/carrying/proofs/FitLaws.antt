@@ -1,33 +1,26 @@
 -- The lines of next year's sheet fit the widths of a key, so the drafted keys and quantities are theirs.
-use Prim.Native.Nat.{ℕ, zero, suc, ◌+◌, ◌-◌, ◌*◌, ◌≤◌, ◌<◌}
-use mathlib.Core.Path.{◌≡◌, refl, sym, ap, ◌∙◌}
-use mathlib.Core.Bool.{true, ◌||◌, not}
-use mathlib.Core.Logic.{◌⊎◌, inl, inr, ⊎_elim}
-use mathlib.Core.List.{List, [], ◌∷◌, map}
-use native.Mathlib.Nat.{le_trans, le-max_left, le-max_right, not-suc-le-zero, le_of_suc-le-suc}
-use native.Mathlib.Omega.{arith}
-use lib.Dec.{ltb, leb}
-use lib.ListN.{length, length-map, take, get_or-map}
-use lib.Seq.{ext_get_or, get_or-take, length-take-le}
-use borrow.Author.Tests.{eq-eqb, ltb-true, leb-true}
+use Rattle.std.proofs.Common.{ℕ, zero, suc, ◌+◌, ◌-◌, ◌*◌, ◌≤◌, ◌<◌, ◌≡◌, refl, sym, ap, ◌∙◌, Bool, true, false, ◌||◌, not, ◌⊎◌, inl, inr, ⊎_elim, List, [], ◌∷◌, map, le_trans, not-suc-le-zero, le_of_suc-le-suc, arith, ltb, leb, length, take, ext_get_or, get_or-take, length-take-le, eq-eqb, ltb-true, ltb-false, leb-true}
+use native.Mathlib.Nat.{le-max_left, le-max_right}
+use lib.ListN.{length-map, get_or-map}
+use Rattle.std.specs.List.{list_all}
+use Rattle.base.proofs.ListLaws.{all_places}
+use borrow.Author.Tests.{not-false}
 use Rattle.base.specs.Sums.{all_to}
 use Rattle.base.specs.Words.{at}
-use Rattle.base.proofs.ChoiceLaws.{pick-by}
+use Rattle.base.proofs.ChoiceLaws.{pick-by, or_left, or_right}
 use Rattle.base.proofs.SumLaws.{all_to-each, all_to-same}
 use Rattle.sheet_keys.specs.Key.{years_of}
 use Rattle.sheet_records.specs.Sheet.{size_of, key_at, kw_at}
 use Rattle.sheet_records.proofs.ReadingLaws.{word_below}
 use Rattle.state.specs.Layout.{interties, holders, locked_of}
 use Rattle.state.proofs.OrderlyLaws.{Orderly}
-use Rattle.carrying.specs.Line.{Line, key_of, quantity_of, line_in}
+use Rattle.carrying.specs.Line.{Line, key_of, line_in}
 use Rattle.carrying.specs.Lines.{yearless, next_line, rank_for, highest, lock_line, next_lines}
 use Rattle.carrying.specs.Carry.{does_not_fit}
-use Rattle.carrying.specs.Workers.Draft.{places, line_key, Drafted}
-use Rattle.std.specs.Prelude.{Option}
-use Rattle.sheet_records.specs.Bytes.{sheet_bytes, with_sheet, SheetWritten}
+use Rattle.carrying.specs.Workers.Draft.{line_key, Drafted, shown, Tables, DraftOf}
 use Rattle.sheet_keys.proofs.KeyLaws.{uncut}
-use Rattle.sheet_records.proofs.BytesLaws.{written-whole}
 use Rattle.carrying.proofs.LineLaws.{AllLines, no_line, lines-all}
+use Rattle.carrying.proofs.DraftLaws.{shown-few, draft-few}
 
 -- a line within the widths; a rank that is not is one of holder 0 to H - 1
 pub record Fits (H : ℕ) (x : Line) : Type 0 where
@@ -67,20 +60,6 @@ module _ (s : List ℕ) (o : Orderly s) where
       lines-all (Fits (holders s)) s lock-fit sheet
       (λ k _ _. next-fit (holders s) (key_at sheet k) (kw_at sheet k) (word_below sheet (12 + 4 * k) bytes))
 
--- the first words of a table, word by word
-first-words : (table words : List ℕ) (n : ℕ) → n ≡ length words → n ≤ length table → ((j : ℕ) → j < n → at table j ≡ at words j) → take n table ≡ words
-first-words table words n e room each =
-    let size : length (take n table) ≡ n = length-take-le n table room in
-    ext_get_or 0 (take n table) words (size ∙ e) (λ j b. let m : j < n = omega arith in get_or-take n table j 0 m ∙ each j m)
-
--- a draft that fits is written whole
-pub draft-whole : (I H n : ℕ) (keys kws l : List ℕ) → length keys ≡ places → length kws ≡ places → n ≤ 1024 → size_of n ≤ length l → (size : Option ℕ) (m : List ℕ) →
-    SheetWritten I H (take n keys) (take n kws) l size m → m ≡ with_sheet (sheet_bytes I H (take n keys) (take n kws)) l
-draft-whole I H n keys kws l ek eq few room size m w =
-    let one : length (take n keys) ≡ n = length-take-le n keys (omega arith) in
-    let two : length (take n kws) ≡ n = length-take-le n kws (omega arith) in
-    (written-whole I H (take n keys) (take n kws) l (omega arith) (two ∙ sym one) (omega arith) size m w).1
-
 -- a New Use commitment's rank is at most its holder's highest
 own-rank : (x : Line) → x.kind ≡ 6 → rank_for x.holder x ≡ x.rank
 own-rank x e = rw (e, eq-eqb x.holder x.holder refl) refl
@@ -110,23 +89,37 @@ module _ (H : ℕ) (l : List Line) (fit : AllFit H l) (low : all_to H (λ h. leb
       let f = fit j b in
       uncut x.kind x.holder x.intertie x.rank x.years f.kind-low f.holder-low f.intertie-low (rank-fits j b) f.years-low
 
-  -- the drafted keys and quantities are the lines'
-  module _ (keys kws ranks : List ℕ) (n : ℕ) (d : Drafted keys kws ranks n l) (few : n ≤ 1024) where
-    pub keys-same : take n keys ≡ map key_of l
-    keys-same =
-        first-words keys (map key_of l) n (d.counted ∙ sym (length-map l key_of)) (omega (arith, d.key-places))
-        (λ j b. d.key-is j b ∙ key_fits j (rw (← d.counted) b) ∙ sym (get_or-map key_of l j no_line))
-
-    pub kws-same : take n kws ≡ map quantity_of l
-    kws-same =
-        first-words kws (map quantity_of l) n (d.counted ∙ sym (length-map l quantity_of)) (omega (arith, d.kw-places))
-        (λ j b. d.kw-is j b ∙ sym (get_or-map quantity_of l j no_line))
+  -- the drafted keys are the lines'
+  pub keys_same : map line_key l ≡ map key_of l
+  keys_same =
+      ext_get_or 0 (map line_key l) (map key_of l) (length-map l line_key ∙ sym (length-map l key_of))
+      (λ j b.
+      let c : j < length l = rw (← length-map l line_key) b in
+      get_or-map line_key l j no_line ∙ key_fits j c ∙ sym (get_or-map key_of l j no_line))
 
 -- the draft's test of refusal 14 is the lines'
-pub fit_same : (keys kws ranks : List ℕ) (n : ℕ) (l : List Line) → Drafted keys kws ranks n l → (H room : ℕ) → H ≤ 32 →
-    (ltb 1024 n || not (all_to H (λ h. leb (at ranks h) 255)) || ltb room (size_of n)) ≡ does_not_fit H l room
+pub fit_same : (l : List Line) (d : Drafted) → DraftOf l d → (keys kws ranks : List ℕ) (n : ℕ) → Tables keys kws ranks n → shown keys kws ranks n ≡ d →
+    (H room : ℕ) → H ≤ 32 → (b : Bool) → b ≡ list_all (λ r. leb r 255) (take H ranks) →
+    (ltb 1024 n || not b || ltb room (size_of n)) ≡ does_not_fit H l room
 unfolding does_not_fit
-fit_same keys kws ranks n l d H room few =
-    let ranked : all_to H (λ h. leb (at ranks h) 255) ≡ all_to H (λ h. leb (highest h l) 255) =
-    all_to-same H (λ h. leb (at ranks h) 255) (λ h. leb (highest h l) 255) (λ h b. ap (λ (r : ℕ). leb r 255) (d.rank_is h (omega arith))) in
-    rw (ranked, d.counted) refl
+fit_same l d of keys kws ranks n t v H room few b e =
+    let size : length (take H ranks) ≡ H = length-take-le H ranks (omega (arith, t.rank-places)) in
+    let count : n ≡ length l = sym (shown-few keys kws ranks n t) ∙ ap (λ (x : Drafted). length x.keys) v ∙ draft-few l d of in
+    let ranked : b ≡ all_to H (λ h. leb (highest h l) 255) =
+    e ∙ all_places (λ r. leb r 255) (take H ranks) ∙ ap (λ (k : ℕ). all_to k (λ h. leb (at (take H ranks) h) 255)) size
+    ∙ all_to-same H (λ h. leb (at (take H ranks) h) 255) (λ h. leb (highest h l) 255)
+    (λ h m. ap (λ (r : ℕ). leb r 255) (get_or-take H ranks h 0 m ∙ ap (λ (x : Drafted). at x.ranks h) v ∙ of.rank_is h (omega arith))) in
+    rw (ranked, count) refl
+
+-- what lines that fit say
+pub fitting : (H : ℕ) (l : List Line) (room : ℕ) → does_not_fit H l room ≡ false →
+    (length l ≤ 1024) × (all_to H (λ h. leb (highest h l) 255) ≡ true) × (size_of (length l) ≤ room)
+unfolding does_not_fit
+fitting H l room f =
+    let long : Bool = ltb 1024 (length l) in
+    let low : Bool = all_to H (λ h. leb (highest h l) 255) in
+    let two = or_left (long || not low) (ltb room (size_of (length l))) f in (
+      ltb-false 1024 (length l) (or_left long (not low) two),
+      not-false low (or_right long (not low) two),
+      ltb-false room (size_of (length l)) (or_right (long || not low) (ltb room (size_of (length l))) f),
+    )

@@ -1,16 +1,7 @@
 -- Lists of lines with one line more, and the lines that are kept of a sheet.
-use Prim.Native.Nat.{ℕ, zero, suc, ◌+◌, ◌≤◌, ◌<◌, max}
-use mathlib.Core.Path.{◌≡◌, refl, sym, ap, ◌∙◌}
-use mathlib.Core.Bool.{Bool, true, false, ◌&&◌}
-use mathlib.Core.Logic.{◌≢◌, ⊎_elim}
-use mathlib.Core.List.{List, [], ◌∷◌, ◌++◌, append-nil}
-use native.Mathlib.Nat.{max-zero, zero-max, add-zero, le_refl, le_step, lt-suc_self, not-suc-le-zero}
-use native.Mathlib.Numerals.{add-one}
-use native.Mathlib.Omega.{arith}
-use lib.Dec.{eqb, ltb}
-use lib.ListN.{length, length-append, get_or-append}
-use lib.Seq.{get_or-append-add}
-use borrow.Author.Tests.{ne_eqb}
+use Rattle.std.proofs.Common.{ℕ, zero, suc, ◌+◌, ◌≤◌, ◌<◌, max, ◌≡◌, refl, sym, ap, ◌∙◌, Bool, true, false, ◌&&◌, ◌≢◌, ⊎_elim, List, [], ◌∷◌, ◌++◌, append-nil, add-zero, le_refl, lt-suc_self, not-suc-le-zero, add-one, arith, eqb, ltb, length, length-append, get_or-append-add, ne_eqb}
+use native.Mathlib.Nat.{max-zero, zero-max, le_step}
+use lib.ListN.{get_or-append}
 use Rattle.base.specs.Choice.{pick}
 use Rattle.base.proofs.ChoiceLaws.{pick-by, and-false}
 use Rattle.base.proofs.SumLaws.{below_suc}
@@ -18,7 +9,7 @@ use Rattle.sheet_keys.specs.Key.{kind_of, holder_of, rank_of}
 use Rattle.sheet_records.specs.Sheet.{count, key_at, kw_at}
 use Rattle.state.specs.Layout.{interties, holders, locked_of}
 use Rattle.carrying.specs.Line.{Line, line_in}
-use Rattle.carrying.specs.Lines.{goes_on, next_line, kept_of, kept, rank_for, highest, lock_line, with_lock, with_locks_of, with_locks, next_lines}
+use Rattle.carrying.specs.Lines.{goes_on, next_line, kept_of, kept, rank_for, highest, lock_line, with_locks_of, with_locks, next_lines}
 
 abbrev pub no_line : Line
 no_line = record { kind = 0; holder = 0; intertie = 0; rank = 0; years = 0; kw = 0 }
@@ -55,10 +46,6 @@ either_way P true l x t f = t refl
 either_way P false l x t f = rw (append-nil l) (f refl)
 
 -- the kept lines
-pub kept-none : (s : List ℕ) → kept s 0 ≡ []
-unfolding kept
-kept-none s = refl
-
 pub kept_more : (s : List ℕ) (k : ℕ) → kept s (k + 1) ≡ kept s k ++ kept_of (key_at s k) (kw_at s k)
 unfolding kept
 kept_more s k = rw (add-one k) refl
@@ -86,23 +73,6 @@ kept_low s (suc k) h =
     either_way (λ (l : List Line). highest h l ≤ 255) (goes_on (key_at s k)) (kept s k) x
     (λ _. rw (highest-more h (kept s k) x) (omega (arith, rank-small h (key_at s k) (kw_at s k))))
     (λ _. before)
-
--- the locks, as loops count
-pub locks-of-none : (s : List ℕ) (h : ℕ) (l : List Line) → with_locks_of s h 0 l ≡ l
-unfolding with_locks_of
-locks-of-none s h l = refl
-
-pub locks-of-more : (s : List ℕ) (h i : ℕ) (l : List Line) → with_locks_of s h (i + 1) l ≡ with_lock s h i (with_locks_of s h i l)
-unfolding with_locks_of
-locks-of-more s h i l = rw (add-one i) refl
-
-pub locks-none : (s : List ℕ) (l : List Line) → with_locks s 0 l ≡ l
-unfolding with_locks
-locks-none s l = refl
-
-pub locks-more : (s : List ℕ) (h : ℕ) (l : List Line) → with_locks s (h + 1) l ≡ with_locks_of s h (interties s) (with_locks s h l)
-unfolding with_locks
-locks-more s h l = rw (add-one h) refl
 
 -- what holds of each line
 abbrev pub AllLines : (Line → Type 0) → List Line → Type 0

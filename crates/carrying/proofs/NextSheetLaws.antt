@@ -1,16 +1,10 @@
 -- What carry writes is a sheet that is not refused, and its records are the lines of next year's sheet.
-use Prim.Native.Nat.{ℕ, ◌+◌, ◌*◌, ◌≤◌, ◌<◌}
-use mathlib.Core.Path.{◌≡◌, refl, ap, ◌∙◌}
-use mathlib.Core.Bool.{Bool, true, false, ◌&&◌, ◌||◌, not}
-use mathlib.Core.List.{List, ◌++◌}
-use native.Mathlib.Omega.{arith}
-use lib.Dec.{eqb, ltb, leb}
-use lib.ListN.{length, drop}
-use borrow.Author.Tests.{eqb-true, leb-true, leb-false, ltb-false, le-leb, le-ltb, eq-eqb, ne_eqb, not-false}
+use Rattle.std.proofs.Common.{ℕ, ◌+◌, ◌*◌, ◌≤◌, ◌<◌, ◌≡◌, refl, ap, ◌∙◌, Bool, true, false, ◌&&◌, ◌||◌, List, ◌++◌, arith, eqb, leb, length, drop, eqb-true, leb-true, leb-false, le-leb, le-ltb, eq-eqb, ne_eqb}
+use borrow.Author.Tests.{not-false}
 use Rattle.base.specs.Sums.{all_to}
 use Rattle.base.specs.Words.{at}
-use Rattle.base.proofs.ChoiceLaws.{and_left, and_right, and_both, or_left, or_right}
-use Rattle.base.proofs.SumLaws.{sum_to-le, all_to-each, all_to-all}
+use Rattle.base.proofs.ChoiceLaws.{or_left, or_right, equal-two, four, all-four}
+use Rattle.base.proofs.SumLaws.{sum_to-le, all_to-each, all_to-all, each-pair, all-pairs, all-le}
 use Rattle.sheet_keys.specs.Key.{kind_of, holder_of, intertie_of, rank_of, years_of, key_from}
 use Rattle.sheet_records.specs.Sheet as Sheet
 use Rattle.sheet_records.specs.Sheet.{size_of, count, key_at, kw_at, sum_over, how_many, is_limit, is_load_share, is_new_use, limit, outside, existing, existing_on}
@@ -24,7 +18,7 @@ use Rattle.carrying.specs.Line.{Line, key_of, line_in}
 use Rattle.carrying.specs.Lines.{kept, highest, next_lines}
 use Rattle.carrying.specs.NewSheet.{new_sheet}
 use Rattle.carrying.specs.Carry.{early_refusal, sizes_differ, does_not_fit, carry_refusal, carried}
-use Rattle.carrying.proofs.FitLaws.{lines_fit, rank-fits}
+use Rattle.carrying.proofs.FitLaws.{lines_fit, rank-fits, fitting}
 use Rattle.carrying.proofs.LineSums.{sum_in, kept_same, kept-most, locks-add}
 use Rattle.carrying.proofs.StandLaws.{fields_stand, fields-rule, lines-stand}
 use Rattle.carrying.proofs.RankLaws.{lines-once}
@@ -66,20 +60,12 @@ record Rules (s : List ℕ) : Type 0 where
 rules : (s : List ℕ) → sheet_refusal s ≡ 0 → Rules s
 unfolding rules_hold one_limit_each one_load_share_each no_rank_twice
 rules s e =
-    let all = (SheetLaws.conditions s e).2 in
-    let three = and_left (records_stand s && one_limit_each s && one_load_share_each s) (no_rank_twice s) all in
-    let two = and_left (records_stand s && one_limit_each s) (one_load_share_each s) three in
+    let all = four (records_stand s) (one_limit_each s) (one_load_share_each s) (no_rank_twice s) (SheetLaws.conditions s e).2 in
     record {
-      one-limit = λ i b.
-          eqb-true (how_many s (is_limit i)) 1
-          (all_to-each (Sheet.interties s) (λ i. eqb (how_many s (is_limit i)) 1) (and_right (records_stand s) (one_limit_each s) two) i b);
-      one-load-share = λ h b.
-          leb-true (how_many s (is_load_share h)) 1
-          (all_to-each (Sheet.holders s) (λ h. leb (how_many s (is_load_share h)) 1) (and_right (records_stand s && one_limit_each s) (one_load_share_each s) three) h b);
+      one-limit = λ i b. eqb-true (how_many s (is_limit i)) 1 (all_to-each (Sheet.interties s) (λ i. eqb (how_many s (is_limit i)) 1) all.1 i b);
+      one-load-share = λ h b. leb-true (how_many s (is_load_share h)) 1 (all_to-each (Sheet.holders s) (λ h. leb (how_many s (is_load_share h)) 1) all.2 h b);
       one_rank = λ h r b c.
-          leb-true (how_many s (is_new_use h r)) 1
-          (all_to-each 256 (λ r. leb (how_many s (is_new_use h r)) 1)
-          (all_to-each (Sheet.holders s) (λ h. all_to 256 (λ r. leb (how_many s (is_new_use h r)) 1)) (and_right (records_stand s && one_limit_each s && one_load_share_each s) (no_rank_twice s) all) h b) r c);
+          leb-true (how_many s (is_new_use h r)) 1 (each-pair (Sheet.holders s) 256 (λ h r. leb (how_many s (is_new_use h r)) 1) all.3 h r b c);
     }
 
 module _ (sheet state output : List ℕ) (bytes : (i : ℕ) → at sheet i < 256) (e : carry_refusal sheet state output ≡ 0) where
@@ -107,23 +93,11 @@ module _ (sheet state output : List ℕ) (bytes : (i : ℕ) → at sheet i < 256
   same-sizes : (Sheet.interties sheet ≡ I) × (Sheet.holders sheet ≡ H)
   unfolding sizes_differ
   same-sizes =
-      let both = not-false (eqb (Sheet.interties sheet) I && eqb (Sheet.holders sheet) H) (or_left (sizes_differ sheet state) (does_not_fit H lines (length output)) passes) in (
-        eqb-true (Sheet.interties sheet) I (and_left (eqb (Sheet.interties sheet) I) (eqb (Sheet.holders sheet) H) both),
-        eqb-true (Sheet.holders sheet) H (and_right (eqb (Sheet.interties sheet) I) (eqb (Sheet.holders sheet) H) both),
-      )
+      (equal-two (Sheet.interties sheet) I (Sheet.holders sheet) H).0
+      (not-false (eqb (Sheet.interties sheet) I && eqb (Sheet.holders sheet) H) (or_left (sizes_differ sheet state) (does_not_fit H lines (length output)) passes))
 
-  abbrev rank_test : Bool
-  rank_test = all_to H (λ h. leb (highest h lines) 255)
-
-  fits : (length lines ≤ 1024) × (rank_test ≡ true) × (size_of (length lines) ≤ length output)
-  unfolding does_not_fit
-  fits =
-      let none = or_right (sizes_differ sheet state) (does_not_fit H lines (length output)) passes in
-      let two = or_left (ltb 1024 (length lines) || not rank_test) (ltb (length output) (size_of (length lines))) none in (
-        ltb-false 1024 (length lines) (or_left (ltb 1024 (length lines)) (not rank_test) two),
-        not-false rank_test (or_right (ltb 1024 (length lines)) (not rank_test) two),
-        ltb-false (length output) (size_of (length lines)) (or_right (ltb 1024 (length lines) || not rank_test) (ltb (length output) (size_of (length lines))) none),
-      )
+  fits : (length lines ≤ 1024) × (all_to H (λ h. leb (highest h lines) 255) ≡ true) × (size_of (length lines) ≤ length output)
+  fits = fitting H lines (length output) (or_right (sizes_differ sheet state) (does_not_fit H lines (length output)) passes)
 
   order : Orderly state
   order = state-stands sheet state early
@@ -267,9 +241,7 @@ module _ (sheet state output : List ℕ) (bytes : (i : ℕ) → at sheet i < 256
   new-rules-hold : rules_hold new ≡ true
   unfolding rules_hold records_stand one_limit_each one_load_share_each no_rank_twice
   new-rules-hold =
-      and_both (records_stand new && one_limit_each new && one_load_share_each new) (no_rank_twice new)
-      (and_both (records_stand new && one_limit_each new) (one_load_share_each new)
-      (and_both (records_stand new) (one_limit_each new)
+      all-four (records_stand new) (one_limit_each new) (one_load_share_each new) (no_rank_twice new)
       (all_to-all (count new) (λ k. record_stands (Sheet.interties new) (Sheet.holders new) (key_at new k) (kw_at new k))
       (λ k b.
       let c : k < length lines = rw (← next-count) b in
@@ -277,24 +249,20 @@ module _ (sheet state output : List ℕ) (bytes : (i : ℕ) → at sheet i < 256
       (all_to-all (Sheet.interties new) (λ i. eqb (how_many new (is_limit i)) 1)
       (λ i b.
       eq-eqb (how_many new (is_limit i)) 1
-      (of-kind 1 (λ h i' r. eqb i' i) (λ q. 1) (omega arith) ∙ old-rules.one-limit i (rw (same-sizes.0, ← next-interties) b)))))
+      (of-kind 1 (λ h i' r. eqb i' i) (λ q. 1) (omega arith) ∙ old-rules.one-limit i (rw (same-sizes.0, ← next-interties) b))))
       (all_to-all (Sheet.holders new) (λ h. leb (how_many new (is_load_share h)) 1)
       (λ h b.
       le-leb (how_many new (is_load_share h)) 1
-      (rw (of-kind 3 (λ h' i r. eqb h' h) (λ q. 1) (omega arith)) (old-rules.one-load-share h (rw (same-sizes.1, ← next-holders) b))))))
-      (all_to-all (Sheet.holders new) (λ h. all_to 256 (λ r. leb (how_many new (is_new_use h r)) 1))
-      (λ h b.
-      all_to-all 256 (λ r. leb (how_many new (is_new_use h r)) 1)
-      (λ r c. le-leb (how_many new (is_new_use h r)) 1 (rank-once h r (rw (← next-holders) b) c))))
+      (rw (of-kind 3 (λ h' i r. eqb h' h) (λ q. 1) (omega arith)) (old-rules.one-load-share h (rw (same-sizes.1, ← next-holders) b)))))
+      (all-pairs (Sheet.holders new) 256 (λ h r. leb (how_many new (is_new_use h r)) 1)
+      (λ h r b c. le-leb (how_many new (is_new_use h r)) 1 (rank-once h r (rw (← next-holders) b) c)))
 
   -- refusal 4
   new-limits-hold : limits_hold new ≡ true
   unfolding limits_hold
   new-limits-hold =
-      all_to-all (Sheet.interties new) (λ i. leb (outside new i + existing_on new i) (limit new i))
-      (λ i b.
-      le-leb (outside new i + existing_on new i) (limit new i)
-      (omega (arith, limit-same i, outside-same i, existing-on-most i, old.within-limit i (rw (same-sizes.0, ← next-interties) b))))
+      all-le (Sheet.interties new) (λ i. outside new i + existing_on new i) (limit new)
+      (λ i b. omega (arith, limit-same i, outside-same i, existing-on-most i, old.within-limit i (rw (same-sizes.0, ← next-interties) b)))
 
   -- nothing refuses the sheet that is written
   pub next-sheet-stands : sheet_refusal new ≡ 0

@@ -1,11 +1,5 @@
 -- No rank stands twice for a holder among the lines of next year's sheet.
-use Prim.Native.Nat.{ℕ, zero, suc, ◌+◌, ◌≤◌, ◌<◌}
-use mathlib.Core.Path.{◌≡◌, refl, ap}
-use mathlib.Core.Bool.{Bool, true, false, ◌&&◌}
-use mathlib.Core.List.{List, [], ◌∷◌, ◌++◌}
-use native.Mathlib.Omega.{arith}
-use lib.Dec.{eqb, ltb}
-use lib.ListN.{length}
+use Rattle.std.proofs.Common.{ℕ, zero, suc, ◌+◌, ◌≤◌, ◌<◌, ◌≡◌, refl, ap, Bool, true, false, ◌&&◌, List, [], ◌∷◌, ◌++◌, arith, eqb, ltb, length}
 use Rattle.base.specs.Choice.{pick}
 use Rattle.base.proofs.SumLaws.{sum_to-zeros}
 use Rattle.sheet_records.specs.Sheet.{count, how_many, sum_over, is_new_use}

@@ -1,11 +1,5 @@
 -- Each line of next year's sheet keeps the rule of its kind.
-use Prim.Native.Nat.{ℕ, ◌+◌, ◌-◌, ◌≤◌, ◌<◌}
-use mathlib.Core.Path.{◌≡◌, refl, sym, ◌∙◌}
-use mathlib.Core.Bool.{Bool, true, false, ◌&&◌}
-use mathlib.Core.List.{List}
-use native.Mathlib.Omega.{arith}
-use lib.Dec.{eqb, ltb, leb}
-use borrow.Author.Tests.{le-leb, lt-ltb, ne_eqb, leb-true, leb-false, ltb-true}
+use Rattle.std.proofs.Common.{ℕ, ◌+◌, ◌-◌, ◌≤◌, ◌<◌, ◌≡◌, refl, sym, ◌∙◌, Bool, true, false, ◌&&◌, List, arith, eqb, ltb, leb, le-leb, lt-ltb, ne_eqb, leb-true, leb-false, ltb-true}
 use Rattle.base.specs.Choice.{pick}
 use Rattle.base.proofs.ChoiceLaws.{and_left, and_right, and_both}
 use Rattle.base.proofs.SumLaws.{sum_to-term}
@@ -91,16 +85,15 @@ module _ (s : List ℕ) (o : Orderly s) where
   lock-stands h i l a b t =
       let some = ltb-true 0 (locked_of s h i) t in
       let term = o.term-range h i a b some in
-      let H = ltb h (holders s) in
-      let I = ltb i (interties s) in
-      let rank = leb 1 (highest h l + 1) in
-      let years = within 1 30 (term_of s h i) in
-      and_both (H && I && rank && years) (repeatable (locked_of s h i))
-      (and_both (H && I && rank) years
-      (and_both (H && I) rank (and_both H I (lt-ltb h (holders s) a) (lt-ltb i (interties s) b)) (le-leb 1 (highest h l + 1) (omega arith)))
-      (and_both (leb 1 (term_of s h i)) (leb (term_of s h i) 30) (le-leb 1 (term_of s h i) term.0) (le-leb (term_of s h i) 30 term.1)))
-      (and_both (leb 1 (locked_of s h i)) (leb (locked_of s h i) 20_000_000) (le-leb 1 (locked_of s h i) some)
-      (le-leb (locked_of s h i) 20_000_000 (locked-small h i a b)))
+      rw (
+        lt-ltb h (holders s) a,
+        lt-ltb i (interties s) b,
+        le-leb 1 (highest h l + 1) (omega arith),
+        le-leb 1 (term_of s h i) term.0,
+        le-leb (term_of s h i) 30 term.1,
+        le-leb 1 (locked_of s h i) some,
+        le-leb (locked_of s h i) 20_000_000 (locked-small h i a b),
+      ) refl
 
   pub lines-stand : (sheet : List ℕ) → Stands sheet → Sheet.interties sheet ≡ interties s → Sheet.holders sheet ≡ holders s →
       AllLines (λ x. line_stands (interties s) (holders s) x ≡ true) (next_lines sheet s)

@@ -1,6 +1,7 @@
 // What becomes of a key in the next year.
 ghost use Rattle.std.specs.Prelude.{◌≡◌};
-ghost use Rattle.carrying.specs.Lines.{yearless, goes_on, next_years, next_line};
+ghost use Rattle.sheet_keys.specs.Key.{holder_of};
+ghost use Rattle.carrying.specs.Lines.{yearless, goes_on, next_years, next_line, rank_for};
 ghost use Rattle.carrying.specs.Workers.Draft.{line_key};
 
 use base::kinds::Kind;
@@ -24,14 +25,11 @@ pub(crate) fn goes_on(key: u32) -> bool
 fn next_years(key: u32) -> u32
     ensures { result ≡ next_years key }
 {
-    let years = key::years(key);
     if yearless(key) {
-        return years;
+        key::years(key)
+    } else {
+        key::years(key).saturating_sub(1)
     }
-    if years == 0 {
-        return 0;
-    }
-    years - 1
 }
 
 // The key of a record that goes on, taken apart and put together again.
@@ -43,4 +41,15 @@ pub(crate) fn next_key(key: u32) -> u32
     let intertie = key::intertie(key);
     let rank = key::rank(key);
     key::pack(kind, holder, intertie, rank, next_years(key))
+}
+
+// The rank of a New Use commitment, 0 of a key of another kind.
+pub(crate) fn new_use_rank(key: u32) -> u32
+    ensures { result ≡ rank_for (holder_of key) (next_line key 0) }
+{
+    if key::kind(key) == Kind::NewUseCommitment as u32 {
+        key::rank(key)
+    } else {
+        0
+    }
 }

@@ -1,9 +1,9 @@
--- The tables that lines are drafted into before a byte is written: keys and quantities in their order, and each holder's highest rank.
-use Rattle.std.specs.Prelude.{ℕ, ◌+◌, ◌≤◌, ◌<◌, ◌≡◌, List, length}
+-- What is drafted before a byte is written: keys and quantities in their order, and each holder's highest rank.
+use Rattle.std.specs.Prelude.{ℕ, ◌+◌, ◌≤◌, ◌<◌, ◌≡◌, max, List, [], ◌∷◌, ◌++◌, length, map, take, slice_set}
 use Rattle.base.specs.Limits.{most_records, most_pairs, most_rank}
 use Rattle.base.specs.Words.{at}
 use Rattle.sheet_keys.specs.Key.{key_holders, cut_key}
-use Rattle.carrying.specs.Line.{Line, line_in}
+use Rattle.carrying.specs.Line.{Line, quantity_of}
 use Rattle.carrying.specs.Lines.{highest}
 
 -- the places of a draft: those of 1,024 old records, and of a lock for each pair
@@ -14,18 +14,36 @@ places = most_records + most_pairs
 abbrev pub line_key : Line → ℕ
 line_key l = cut_key l.kind l.holder l.intertie l.rank l.years
 
--- n lines that stand in the tables
-pub record Drafted (keys kws ranks : List ℕ) (n : ℕ) (lines : List Line) : Type 0 where
+-- what is drafted
+pub record Drafted : Type 0 where
+  pub keys : List ℕ
+  pub kws : List ℕ
+  pub ranks : List ℕ
+
+-- what the tables of a draft of n records say
+abbrev pub shown : List ℕ → List ℕ → List ℕ → ℕ → Drafted
+shown keys kws ranks n = record { keys = take n keys; kws = take n kws; ranks = ranks }
+
+-- the tables have room for n records, and ranks that these could reach
+pub record Tables (keys kws ranks : List ℕ) (n : ℕ) : Type 0 where
   pub key-places : length keys ≡ places
   pub kw-places : length kws ≡ places
   pub rank-places : length ranks ≡ key_holders
-  pub counted : n ≡ length lines
-  pub key-is : (j : ℕ) → j < n → at keys j ≡ line_key (line_in lines j)
-  pub kw-is : (j : ℕ) → j < n → at kws j ≡ (line_in lines j).kw
-  pub rank_is : (h : ℕ) → h < key_holders → at ranks h ≡ highest h lines
+  pub few : n ≤ places
+  pub low : (h : ℕ) → h < key_holders → at ranks h ≤ most_rank + n
 
--- at most so many lines, and ranks that these could reach
-pub record Bounded (ranks : List ℕ) (n most : ℕ) : Type 0 where
-  pub size : length ranks ≡ key_holders
-  pub few : n ≤ most
-  pub low : (h : ℕ) → h < key_holders → at ranks h ≤ most_rank + most
+-- a record more, of a holder who has a rank by it
+abbrev pub with_record : ℕ → ℕ → ℕ → ℕ → Drafted → Drafted
+with_record key kw holder rank d =
+    record { keys = d.keys ++ key ∷ []; kws = d.kws ++ kw ∷ []; ranks = slice_set d.ranks holder (max (at d.ranks holder) rank) }
+
+-- a draft is that of a list of lines
+pub record DraftOf (lines : List Line) (d : Drafted) : Type 0 where
+  pub keys-are : d.keys ≡ map line_key lines
+  pub kws-are : d.kws ≡ map quantity_of lines
+  pub sized : length d.ranks ≡ key_holders
+  pub rank_is : (h : ℕ) → h < key_holders → at d.ranks h ≡ highest h lines
+
+-- a draft of any lines becomes one of what a function makes of them
+abbrev pub Adds : (List Line → List Line) → Drafted → Drafted → Type 0
+Adds f before after = (lines : List Line) → DraftOf lines before → DraftOf (f lines) after

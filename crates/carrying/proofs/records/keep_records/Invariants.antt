@@ -1,8 +1,0 @@
--- `records::keep_records` meets its contract: the draft is what is kept of the records so far.
-use Rattle.base.proofs.Prelude.{length}
-use Rattle.carrying.specs.Lines.{kept}
-use Rattle.carrying.specs.Workers.Draft.{Drafted}
-use Rattle.carrying.proofs.records.keep_records.Given as goal
-
-abbrev pub invariant-loop-record : goal.invariant-loop-record
-invariant-loop-record l = Drafted l.keys l.kws l.ranks l.drafted (kept l.sheet (length l.yielded))

@@ -1,0 +1,162 @@
+// A draft of next year's sheet, made before a byte of it is written: what goes on of the old sheet, then the locks.
+ghost use Rattle.std.specs.Prelude.{◌≡◌, false, List, [], ◌++◌, ℕ, ◌+◌, ◌*◌, ◌≤◌, ◌<◌, length};
+ghost use Rattle.base.specs.Choice.{pick};
+ghost use Rattle.base.specs.Limits.{most_holders, most_interties, most_records, most_rank};
+ghost use Rattle.sheet_keys.specs.Key.{key_holders};
+ghost use Rattle.sheet_records.specs.Sheet.{count, size_of};
+ghost use Rattle.sheet_records.specs.Bytes.{sheet_bytes, with_sheet};
+ghost use Rattle.sheet_records.specs.Refusal.{bad_length};
+ghost use Rattle.state.specs.Layout.{interties, holders};
+ghost use Rattle.carrying.specs.Line.{Line};
+ghost use Rattle.carrying.specs.Lines.{kept_of, kept, with_lock, with_locks_of, with_locks};
+ghost use Rattle.carrying.specs.Carry.{does_not_fit};
+ghost use Rattle.carrying.specs.Workers.Draft.{places, with_record, DraftOf, Adds};
+
+use crate::key;
+use base::kinds::Kind;
+use base::limits::{MOST_PAIRS, MOST_RANK, MOST_RECORDS, RECORD_BYTES, SHEET_HEADER_BYTES};
+use sheet_keys::key::HOLDERS;
+use sheet_records::reader::Record;
+use sheet_records::{reader, writing};
+use state::layout;
+use std::marker::Model;
+
+// The places of a draft: those of 1,024 old records, and of a lock for each pair.
+const PLACES: usize = MOST_RECORDS + MOST_PAIRS;
+
+// A draft: the keys of its records, their quantities, how many there are, and each holder's highest rank among them. Keys and
+// quantities are two arrays, since the bytes of a sheet have them so.
+#[derive(Drop)]
+pub(crate) struct Draft {
+    keys: [u32; PLACES],
+    kws: [u32; PLACES],
+    ranks: [u32; HOLDERS],
+    count: usize,
+}
+
+impl Model for Draft {
+    ghost use Rattle.carrying.specs.Workers.Draft.{Drafted, Tables, shown};
+
+    ghost Value = { Drafted };
+
+    ghost view = { λ d. shown d.keys d.kws d.ranks d.count };
+
+    ghost invariant = { λ d. Tables d.keys d.kws d.ranks d.count };
+}
+
+impl Draft {
+    // A draft of no records.
+    pub(crate) fn new() -> Draft
+        ensures { DraftOf [] result }
+    {
+        Draft {
+            keys: [0; PLACES],
+            kws: [0; PLACES],
+            ranks: [0; HOLDERS],
+            count: 0,
+        }
+    }
+
+    // Writes a record after the others, and counts it and its rank if it is one that goes on. Both ways do the same, since a
+    // branch would be taken at random.
+    fn put(&mut self, on: bool, key: u32, kw: u32, holder: usize, rank: u32)
+        requires { (length self.old.keys < places) × (holder < key_holders) × (rank ≤ most_rank + length self.old.keys + 1) }
+        ensures { self.new ≡ pick on (with_record key kw holder rank self.old) self.old }
+    {
+        let place = self.count;
+        self.keys[place] = key;
+        self.kws[place] = kw;
+        let highest = self.ranks[holder];
+        self.ranks[holder] = if on { highest.max(rank) } else { highest };
+        self.count = place + usize::from(on);
+    }
+
+    // Drafts a record of the old sheet, if it goes on.
+    fn keep(&mut self, line: Record)
+        requires { length self.old.keys < places }
+        ensures { Adds (λ (lines : List Line). lines ++ kept_of line.key line.kw) self.old self.new }
+    {
+        self.put(
+            key::goes_on(line.key),
+            key::next_key(line.key),
+            line.kw,
+            sheet_keys::key::holder(line.key) as usize,
+            key::new_use_rank(line.key),
+        );
+    }
+
+    // Drafts what goes on of a sheet that refusal 1 lets pass.
+    pub(crate) fn keep_records(&mut self, sheet: &[u8])
+        requires { (bad_length sheet.now ≡ false) × DraftOf [] self.old }
+        ensures { DraftOf (kept sheet.now (count sheet.now)) self.new }
+    {
+        for record in reader::records(sheet) {
+            self.keep(record);
+        }
+    }
+
+    // Drafts the lock of a pair, if it has one.
+    fn add_lock(&mut self, state: &[u32], holder: u32, intertie: u32)
+        requires { (holder < most_holders) × (intertie < most_interties)
+            × (length self.old.keys ≤ most_records + most_interties * holder + intertie) }
+        ensures { (length self.new.keys ≤ length self.old.keys + 1)
+            × Adds (with_lock state.now holder intertie) self.old self.new }
+    {
+        let locked = state::pair_word(state, layout::LOCKED, holder, intertie);
+        if locked == 0 {
+            return;
+        }
+        let term = state::pair_word(state, layout::TERM, holder, intertie);
+        let rank = self.ranks[holder as usize] + 1;
+        let kind = Kind::NewUseCommitment as u32;
+        let key = sheet_keys::key::pack(kind, holder, intertie, rank, term);
+        self.put(true, key, locked, holder as usize, rank);
+    }
+
+    // The locks of a holder, by intertie.
+    fn add_holder_locks(&mut self, state: &[u32], holder: u32)
+        requires { (holder < most_holders) × (interties state.now ≤ most_interties)
+            × (length self.old.keys ≤ most_records + most_interties * holder) }
+        ensures { (length self.new.keys ≤ most_records + most_interties * (holder + 1))
+            × Adds (with_locks_of state.now holder (interties state.now)) self.old self.new }
+    {
+        for intertie in 0..state::intertie_count(state) {
+            self.add_lock(state, holder, intertie);
+        }
+    }
+
+    // All locks, by holder.
+    pub(crate) fn add_locks(&mut self, state: &[u32])
+        requires { (interties state.now ≤ most_interties) × (holders state.now ≤ most_holders)
+            × (length self.old.keys ≤ most_records) }
+        ensures { Adds (with_locks state.now (holders state.now)) self.old self.new }
+    {
+        for holder in 0..state::holder_count(state) {
+            self.add_holder_locks(state, holder);
+        }
+    }
+
+    // Whether a draft is no sheet: over 1,024 records, a rank over 255, or an output that is too short.
+    pub(crate) fn does_not_fit(&self, holders: usize, room: usize) -> bool
+        requires { holders ≤ most_holders }
+        ensures { (lines : List Line) → DraftOf lines self.now → result ≡ does_not_fit holders lines room }
+    {
+        (MOST_RECORDS < self.count)
+            | !self.ranks[..holders].iter().all(|rank| *rank <= MOST_RANK)
+            | (room < SHEET_HEADER_BYTES + RECORD_BYTES * self.count)
+    }
+
+    // Writes a draft that fits as a sheet.
+    pub(crate) fn write(&self, interties: u32, holders: u32, output: &mut [u8])
+        requires { (length self.now.keys ≤ most_records) × (size_of (length self.now.keys) ≤ length output.old) }
+        ensures { output.new ≡ with_sheet (sheet_bytes interties holders self.now.keys self.now.kws) output.old }
+    {
+        writing::write_sheet(
+            interties,
+            holders,
+            &self.keys[..self.count],
+            &self.kws[..self.count],
+            output,
+        );
+    }
+}
