@@ -38,8 +38,8 @@ module _ (sheet state : List ℕ) (e : early_refusal sheet state ≡ 0) where
   unfolding early_refusal
   state-stands = (refusal-none state (none_first (state_refusal state) _ (none-second (sheet_refusal sheet) _ e))).1
 
-  pub length-stands : bad_length sheet ≡ false
-  length-stands = (conditions sheet sheet-stands).0
+  pub length_stands : bad_length sheet ≡ false
+  length_stands = (conditions sheet sheet-stands).0
 
   pub few-records : Sheet.count sheet ≤ 1024
   few-records = (standing sheet sheet-stands).few-records
@@ -48,11 +48,11 @@ module _ (sheet state : List ℕ) (e : early_refusal sheet state ≡ 0) where
   size-there = le-ltb (length sheet) 12 (first-words sheet sheet-stands)
 
   -- the sizes as they are read
-  pub sizes-read : (i h I H : ℕ) →
+  pub sizes_read : (i h I H : ℕ) →
       i ≡ pick (ltb (length sheet) 12) 0 (Sheet.interties sheet) → h ≡ pick (ltb (length sheet) 12) 0 (Sheet.holders sheet) →
       I ≡ Layout.interties state → H ≡ Layout.holders state → not (eqb i I) || not (eqb h H) ≡ sizes_differ sheet state
   unfolding sizes_differ
-  sizes-read i h I H ei eh eI eH = rw (ei, eh, eI, eH, size-there) (not-both (eqb (Sheet.interties sheet) (Layout.interties state)) (eqb (Sheet.holders sheet) (Layout.holders state)))
+  sizes_read i h I H ei eh eI eH = rw (ei, eh, eI, eH, size-there) (not-both (eqb (Sheet.interties sheet) (Layout.interties state)) (eqb (Sheet.holders sheet) (Layout.holders state)))
 
 module _ (sheet state output : List ℕ) where
   abbrev lines : List Line

@@ -1,5 +1,5 @@
 -- A draft of lines: of none, and with one more.
-use Rattle.std.proofs.Common.{ℕ, ◌+◌, ◌≤◌, ◌<◌, ◌≡◌, refl, sym, ap, ◌∙◌, arith, Bool, List, [], ◌∷◌, ◌++◌, length, set, replicate, take, max, ◌≢◌, ltb, length-set, get_or-set_same, get_or-set_other, length-take-le, eq-eqb, ltb-true, ltb-false}
+use Rattle.std.proofs.Common.{ℕ, ◌+◌, ◌≤◌, ◌<◌, ◌≡◌, refl, sym, ap, ◌∙◌, arith, Bool, List, [], ◌∷◌, ◌++◌, length, set, replicate, take, max, ◌≢◌, ltb, length-set, get_or-set_same, get_or-set_other, length-take-le, eq-eqb, ltb-false}
 use Rattle.base.proofs.Prelude.{pick, at}
 use native.Mathlib.Nat.{max-zero}
 use native.Mathlib.Decide.{ℕ_discrete}
@@ -18,8 +18,8 @@ pub shown-few : (keys kws ranks : List ℕ) (n : ℕ) → Tables keys kws ranks 
 shown-few keys kws ranks n t = length-take-le n keys (omega (arith, t.few, t.key-places))
 
 -- no record yet
-pub no-tables : Tables (replicate places 0) (replicate places 0) (replicate 64 0) 0
-no-tables =
+pub no_tables : Tables (replicate places 0) (replicate places 0) (replicate 64 0) 0
+no_tables =
     record {
       key-places = length-replicate {A = ℕ} places 0;
       kw-places = length-replicate {A = ℕ} places 0;
@@ -28,8 +28,8 @@ no-tables =
       low = λ h b. omega (arith, get_or-replicate {A = ℕ} 64 h 0 0 b);
     }
 
-pub draft-none : DraftOf [] (shown (replicate places 0) (replicate places 0) (replicate 64 0) 0)
-draft-none =
+pub draft_none : DraftOf [] (shown (replicate places 0) (replicate places 0) (replicate 64 0) 0)
+draft_none =
     record {
       keys-are = refl;
       kws-are = refl;
@@ -60,25 +60,19 @@ module _ (l : List Line) (d : Drafted) (of : DraftOf l d) (x : Line) where
       })
 
 -- an old record, kept or not
-pub record-drafted : (key kw : ℕ) (b : Bool) → b ≡ goes_on key → (packed h rank : ℕ) → h ≡ holder_of key → packed ≡ line_key (next_line key 0) →
+pub record_drafted : (key kw : ℕ) (b : Bool) → b ≡ goes_on key → (packed h rank : ℕ) → h ≡ holder_of key → packed ≡ line_key (next_line key 0) →
     rank ≡ rank_for (holder_of key) (next_line key 0) → (before after : Drafted) → after ≡ pick b (with_record packed kw h rank before) before →
     Adds (λ (l : List Line). l ++ kept_of key kw) before after
-record-drafted key kw b e packed h rank eh ek er before after made l of =
+record_drafted key kw b e packed h rank eh ek er before after made l of =
     either_way (λ (lines : List Line). DraftOf lines after) (goes_on key) l (next_line key kw)
     (λ y. rw (made, e, y) (draft-more l before of (next_line key kw) packed kw h rank eh (omega arith) ek refl er))
     (λ n. rw (made, e, n) of)
 
--- a pair without a lock, and with one
+-- a pair with a lock
 module _ (state : List ℕ) (h i locked : ℕ) (e : locked ≡ locked_of state h i) (before : Drafted) where
-  pub no-lock : locked ≡ 0 → Adds (with_lock state h i) before before
-  no-lock z l of =
-      either_way (λ (m : List Line). DraftOf m before) (ltb 0 (locked_of state h i)) l (lock_line state h i l)
-      (λ t. absurd (omega (arith, ltb-true 0 (locked_of state h i) t)))
-      (λ _. of)
-
-  pub a-lock : locked ≢ 0 → h < 64 → (packed rank term : ℕ) → term ≡ term_of state h i → rank ≡ at before.ranks h + 1 → packed ≡ cut_key 6 h i rank term →
+  pub a_lock : locked ≢ 0 → h < 64 → (packed rank term : ℕ) → term ≡ term_of state h i → rank ≡ at before.ranks h + 1 → packed ≡ cut_key 6 h i rank term →
       (after : Drafted) → after ≡ with_record packed locked h rank before → Adds (with_lock state h i) before after
-  a-lock some low packed rank term et er ek after made l of =
+  a_lock some low packed rank term et er ek after made l of =
       either_way (λ (m : List Line). DraftOf m after) (ltb 0 (locked_of state h i)) l (lock_line state h i l)
       (λ _.
       let next : rank ≡ highest h l + 1 = er ∙ ap (λ (k : ℕ). k + 1) (of.rank_is h low) in

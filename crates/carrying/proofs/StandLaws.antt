@@ -1,7 +1,7 @@
 -- Each line of next year's sheet keeps the rule of its kind.
 use Rattle.std.proofs.Common.{ℕ, ◌+◌, ◌-◌, ◌≤◌, ◌<◌, ◌≡◌, refl, sym, ◌∙◌, Bool, true, false, ◌&&◌, List, arith, eqb, ltb, leb, le-leb, lt-ltb, ne_eqb, leb-true, leb-false, ltb-true}
 use Rattle.base.specs.Choice.{pick}
-use Rattle.base.proofs.ChoiceLaws.{and_left, and_right, and_both}
+use Rattle.base.proofs.ChoiceLaws.{and_both, both}
 use Rattle.base.proofs.SumLaws.{sum_to-term}
 use Rattle.sheet_keys.specs.Key.{kind_of, holder_of, intertie_of, rank_of, years_of}
 use Rattle.sheet_records.specs.Sheet as Sheet
@@ -30,33 +30,29 @@ fields-rule I H key q = refl
 abbrev pub line_stands : ℕ → ℕ → Line → Bool
 line_stands I H x = fields_stand I H x.kind x.holder x.intertie x.rank x.years x.kw
 
--- a year less of two or more
-one_less : (y : ℕ) → 2 ≤ y → within 1 30 y ≡ true → within 1 30 (y - 1) ≡ true
-one_less y two t =
-    let most : y ≤ 30 = leb-true y 30 (and_right (leb 1 y) (leb y 30) t) in
-    and_both (leb 1 (y - 1)) (leb (y - 1) 30) (le-leb 1 (y - 1) (omega arith)) (le-leb (y - 1) 30 (omega arith))
-
 -- the fourth of five tests exchanged
 fourth : (p w w' e : Bool) → (w ≡ true → w' ≡ true) → p && w && e ≡ true → p && w' && e ≡ true
 fourth p w w' e f t =
-    let pw = and_left (p && w) e t in
-    and_both (p && w') e (and_both p w' (and_left p w pw) (f (and_right p w pw))) (and_right (p && w) e t)
+    let q = (both (p && w) e).0 t in
+    let r = (both p w).0 q.0 in
+    and_both (p && w') e (and_both p w' r.0 (f r.1)) q.1
 
+-- a year less of two or more
 stands-less : (I H k h i r y q : ℕ) → 3 < k → 2 ≤ y → fields_stand I H k h i r y q ≡ true → fields_stand I H k h i r (y - 1) q ≡ true
 unfolding fields_stand
 stands-less I H k h i r y q late two t =
     rw (ne_eqb k 1 (omega arith), ne_eqb k 2 (omega arith), ne_eqb k 3 (omega arith))
     (go (within 4 5 k) (eqb k 6) (rw (ne_eqb k 1 (omega arith), ne_eqb k 2 (omega arith), ne_eqb k 3 (omega arith)) at t))
   where
-    contract : ℕ → Bool
-    contract y = ltb h H && ltb i I && eqb r 0 && within 1 30 y && repeatable q
+    less : within 1 30 y ≡ true → within 1 30 (y - 1) ≡ true
+    less t = rw (le-leb 1 (y - 1) (omega arith), le-leb (y - 1) 30 (omega (arith, leb-true y 30 ((both (leb 1 y) (leb y 30)).0 t).1))) refl
 
-    new-use : ℕ → Bool
-    new-use y = ltb h H && ltb i I && leb 1 r && within 1 30 y && repeatable q
+    stood : Bool → ℕ → Bool
+    stood ranked y = ltb h H && ltb i I && ranked && within 1 30 y && repeatable q
 
-    go : (b c : Bool) → pick b (contract y) (pick c (new-use y) false) ≡ true → pick b (contract (y - 1)) (pick c (new-use (y - 1)) false) ≡ true
-    go true c e = fourth (ltb h H && ltb i I && eqb r 0) (within 1 30 y) (within 1 30 (y - 1)) (repeatable q) (one_less y two) e
-    go false true e = fourth (ltb h H && ltb i I && leb 1 r) (within 1 30 y) (within 1 30 (y - 1)) (repeatable q) (one_less y two) e
+    go : (b c : Bool) → pick b (stood (eqb r 0) y) (pick c (stood (leb 1 r) y) false) ≡ true → pick b (stood (eqb r 0) (y - 1)) (pick c (stood (leb 1 r) (y - 1)) false) ≡ true
+    go true c e = fourth (ltb h H && ltb i I && eqb r 0) (within 1 30 y) (within 1 30 (y - 1)) (repeatable q) less e
+    go false true e = fourth (ltb h H && ltb i I && leb 1 r) (within 1 30 y) (within 1 30 (y - 1)) (repeatable q) less e
     go false false e = e
 
 -- a record that goes on stands as it is written

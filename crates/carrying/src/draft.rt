@@ -46,6 +46,7 @@ impl Model for Draft {
 
 impl Draft {
     // A draft of no records.
+    #[tactic(auto, using(crate::proofs::DraftLaws::no_tables, crate::proofs::DraftLaws::draft_none))]
     pub(crate) fn new() -> Draft
         ensures { DraftOf [] result }
     {

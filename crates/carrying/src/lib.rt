@@ -22,6 +22,7 @@ fn check_early(sheet: &[u8], state: &[u32]) -> Result<(), Refusal>
 }
 
 // Whether the sheet's sizes differ from the state's.
+#[tactic(auto, using(crate::proofs::CarryLaws::sizes_read))]
 fn sizes_differ(sheet: &[u8], state: &[u32]) -> bool
     requires { early_refusal sheet.now state.now ≡ 0 }
     ensures { result ≡ sizes_differ sheet.now state.now }
@@ -31,6 +32,7 @@ fn sizes_differ(sheet: &[u8], state: &[u32]) -> bool
 }
 
 // Carries where refusals 1 to 7 let pass and the sizes are the same.
+#[tactic(auto, using(crate::proofs::CarryLaws::length_stands))]
 fn carry_on(sheet: &[u8], state: &[u32], output: &mut [u8]) -> Result<Granted, Refusal>
     requires { (early_refusal sheet.now state.now ≡ 0) × (sizes_differ sheet.now state.now ≡ false) }
     ensures { let o = carried sheet.now state.now output.old in
@@ -49,6 +51,7 @@ fn carry_on(sheet: &[u8], state: &[u32], output: &mut [u8]) -> Result<Granted, R
 }
 
 // Writes next year's sheet into the output, or refuses it and leaves the output as it was.
+#[tactic(auto, using(crate::proofs::CarryLaws::refused_early, crate::proofs::CarryLaws::refused_sizes))]
 pub fn carry(sheet: &[u8], state: &[u32], output: &mut [u8]) -> Result<Granted, Refusal>
     ensures { let o = carried sheet.now state.now output.old in
         (answer_of result ≡ o.answer) × (output.new ≡ o.output) }

@@ -1,11 +1,8 @@
 -- `carry_on` meets its contract: refused with 14, or written (`CarryLaws`).
-use Rattle.base.proofs.Prelude.{arith, rules}
-use Rattle.carrying.proofs.CarryLaws.{length-stands, state-stands, few-records, refused_unfit, draft-fits, draft-written}
+use Rattle.base.proofs.Prelude.{arith}
+use Rattle.carrying.proofs.CarryLaws.{state-stands, few-records, refused_unfit, draft-fits, draft-written}
 use Rattle.carrying.proofs.DraftLaws.{kept-room}
 use Rattle.carrying.proofs.carry_on.Goals as goal
-
-pub keep_records-requires : goal.keep_records-requires
-keep_records-requires c = search (rules, length-stands)
 
 pub add_locks-requires : goal.add_locks-requires
 add_locks-requires c =
