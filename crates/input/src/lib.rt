@@ -95,10 +95,7 @@ pub fn argument<'a>(
 pub fn file_name(name: &[u8]) -> Result<&str, Error>
     ensures { IfOk result (λ text. text.now ≡ name.now) }
 {
-    match str::from_utf8(name) {
-        Ok(text) => Ok(text),
-        Err(_) => Err(Error::from_raw_os_error(NOT_TEXT)),
-    }
+    str::from_utf8(name).map_err(|_| Error::from_raw_os_error(NOT_TEXT))
 }
 
 // Says a text on standard error.

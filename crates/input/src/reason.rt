@@ -1,23 +1,22 @@
 // Why something failed, as the system words it.
+use arrayvec::ArrayVec;
 use std::fmt;
 use std::fmt::Write;
 use std::io::Error;
 
 const ROOM: usize = 320;
 
-// The first `count` bytes are the text.
+// Its text, as much of it as there is room for.
 #[derive(Drop)]
 pub(super) struct Reason {
-    bytes: [u8; ROOM],
-    count: usize,
+    text: ArrayVec<u8, ROOM>,
 }
 
 impl Reason {
     // An error of the system's is written as `No such file or directory (os error 2)`: the number is left out.
     pub(super) fn of(error: Error) -> Reason {
         let mut reason = Reason {
-            bytes: [0u8; ROOM],
-            count: 0,
+            text: ArrayVec::new(),
         };
         let _ = reason.write(error);
         if error.raw_os_error().is_some() {
@@ -27,13 +26,13 @@ impl Reason {
     }
 
     pub(super) fn text(&self) -> &[u8] {
-        &self.bytes[..self.count.min(ROOM)]
+        self.text.as_slice()
     }
 
     // Ends the text before its last ` (`.
     fn drop_number(&mut self) {
         if let Some(at) = self.text().iter().rposition(|b| *b == b'(') {
-            self.count = at.saturating_sub(1);
+            self.text.truncate(at.saturating_sub(1));
         }
     }
 }
@@ -41,11 +40,7 @@ impl Reason {
 impl Write for Reason {
     fn write_str(&mut self, s: &str) -> fmt::Result {
         for b in s.as_bytes() {
-            if ROOM <= self.count {
-                return Err(fmt::Error);
-            }
-            self.bytes[self.count] = *b;
-            self.count += 1;
+            self.text.try_push(*b).map_err(|_| fmt::Error)?;
         }
         Ok(())
     }

@@ -1,7 +1,6 @@
 -- The lines of a journal, one after the other.
 use Prim.Native.Nat.{ℕ, suc, ◌+◌, ◌*◌, ◌/◌, ◌≤◌}
 use mathlib.Core.Path.{◌≡◌, refl, sym, ap, ◌∙◌}
-use mathlib.Core.Bool.{true, false}
 use mathlib.Core.List.{List, [], ◌∷◌, ◌++◌}
 use native.Mathlib.Numerals.{add-one}
 use native.Mathlib.Omega.{arith}
@@ -45,8 +44,8 @@ pub call-in : (line : Result (Option Call) Fault) (call : Call) (place r : ℕ) 
     (r ≡ place + length (words_in line)) × (m ≡ written place (words_in line) l)
 call-in line call place r l m good put = rw good put
 
-pub none-put : (line : Result (Option Call) Fault) (place : ℕ) (l : List ℕ) → words_in line ≡ [] → (place ≡ place + length (words_in line)) × (l ≡ written place (words_in line) l)
-none-put line place l none = (omega (arith, ap length none), sym (ap (λ (t : List ℕ). written place t l) none ∙ written_none place l))
+pub none_put : (line : Result (Option Call) Fault) (place : ℕ) (l : List ℕ) → words_in line ≡ [] → (place ≡ place + length (words_in line)) × (l ≡ written place (words_in line) l)
+none_put line place l none = (omega (arith, ap length none), sym (ap (λ (t : List ℕ). written place t l) none ∙ written_none place l))
 
 -- the answer, line by line
 module _ (room number count : ℕ) (line : List ℕ) (others : List (List ℕ)) where

@@ -93,7 +93,7 @@ fn call_with(kind: CallKind, n: &[u32; 4]) -> Call
     }
 }
 
-// The kind of the call that a name names.
+// The kind of the call that a name names. (A match over the name's bytes was tried: it splits into 29 goals.)
 fn kind_of(name: &[u8]) -> Option<CallKind>
     ensures { result ≡ kind_of name.now }
 {

@@ -9,7 +9,8 @@ use crate::calls::{Call, read_line};
 use crate::faults::{Fault, Unreadable};
 use base::encoding::CALL_WORDS;
 
-// Finds the first line that can't be read, or counts the calls.
+// Finds the first line that can't be read, or counts the calls. (A match and no `map_err` with `?`: that was tried, and the
+// proof doesn't get hold of what its closure gave.)
 pub(super) fn check(text: &[u8], room: usize) -> Result<usize, Unreadable>
     ensures { result ≡ answer_from room 1 0 (lines_of text.now) }
 {
@@ -56,16 +57,16 @@ pub(super) fn put_calls(text: &[u8], calls: &mut [u32])
 }
 
 // Writes the words of a line from a place on, and answers the place after them.
+#[tactic(auto, using(crate::proofs::JournalLaws::none_put))]
 fn put_line(line: &[u8], calls: &mut [u32], place: usize) -> usize
     requires { place + length (words_in (line_of line.now)) ≤ length calls.old }
     ensures { let words = words_in (line_of line.now) in
         (result ≡ place + length words) × (calls.new ≡ written place words calls.old) }
 {
-    match read_line(line) {
-        Ok(Some(call)) => put_call(call, calls, place),
-        Ok(None) => place,
-        Err(_) => place,
-    }
+    let Ok(Some(call)) = read_line(line) else {
+        return place;
+    };
+    put_call(call, calls, place)
 }
 
 // Writes the six words of a call from a place on, and answers the place after them.

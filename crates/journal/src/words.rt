@@ -25,9 +25,7 @@ impl<'a> Iterator for Words<'a> {
     ghost remaining = { item_count words_left };
 
     fn next(&mut self) -> Option<&'a [u8]> {
-        let Some(start) = self.rest.iter().position(|byte| !is_blank(*byte)) else {
-            return None;
-        };
+        let start = self.rest.iter().position(|byte| !is_blank(*byte))?;
         let word = &self.rest[start..];
         let end = word
             .iter()
