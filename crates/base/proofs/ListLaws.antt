@@ -1,6 +1,6 @@
 -- What a chain over a list comes to, in sums and tests over its places.
 use Rattle.std.proofs.Common.{◌≡◌, ℕ, zero, suc, ◌+◌, ◌-◌, ◌%◌, ◌^◌, ◌<◌, ◌≤◌, Bool, true, false, ◌&&◌, List, ◌∷◌, [], length, replicate, refl, sym, ap, ◌∙◌, add-one, suc-le-suc, le_of_suc-le-suc, not-suc-le-zero, zero-le, le_refl, le_trans, arith, ext_get_or}
-use Rattle.std.specs.List.{fold, list_all, zip}
+use Rattle.std.specs.List.{fold, list_all}
 use lib.Bits.{bit_or}
 use mathlib.Core.Bool.{and_assoc}
 use lib.ListN.{length-replicate, get_or-replicate}
@@ -54,16 +54,6 @@ replicate-tab n v =
     (λ i l.
     let m : i < n = omega (arith, length-replicate n v) in
     get_or-replicate n i v 0 m ∙ sym (at-tab n (λ c. v) i m))
-
--- a test of the numbers of two lists, place by place
-pub all_zipped : (p : ℕ → ℕ → Bool) (a b : List ℕ) → length b ≡ length a →
-    list_all (λ (q : ℕ × ℕ). p q.0 q.1) (zip a b) ≡ all_to (length a) (λ c. p (at a c) (at b c))
-unfolding all_to
-all_zipped p [] b e = refl
-all_zipped p (x ∷ a) [] e = absurd (omega arith)
-all_zipped p (x ∷ a) (y ∷ b) e =
-    let size : length b ≡ length a = omega arith in
-    ap (λ t. p x y && t) (all_zipped p a b size) ∙ sym (all_to-first (length a) (λ c. p (at (x ∷ a) c) (at (y ∷ b) c)))
 
 -- bits put together over a list are no less than those at the start, nor than those of any number
 fold-or-start : (f : ℕ → ℕ) (start : ℕ) (l : List ℕ) → start ≤ fold (λ bits number. bit_or bits (f number)) start l

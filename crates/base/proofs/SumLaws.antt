@@ -149,10 +149,6 @@ all_to-suc n p a h = and_both (all_to n p) (p n) a h
 pub all_to-more : (n : ℕ) (p : ℕ → Bool) → all_to n p ≡ true → p n ≡ true → all_to (n + 1) p ≡ true
 all_to-more n p a h = rw (add-one n) (all_to-suc n p a h)
 
-pub all_to-next : (n : ℕ) (p : ℕ → Bool) → all_to (n + 1) p ≡ (all_to n p && p n)
-unfolding all_to
-all_to-next n p = rw add-one refl
-
 -- a further turn of a loop that tests all, and the end of such a loop
 pub all_more : (n : ℕ) (p : ℕ → Bool) (b x : Bool) → b ≡ all_to n p → x ≡ p n → b && x ≡ all_to (n + 1) p
 unfolding all_to

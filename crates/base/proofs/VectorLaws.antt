@@ -134,13 +134,6 @@ all-front n l p inside =
     ap (λ k. all_to k (λ c. p (at (take n l) c))) (length-take-le n l inside)
     ∙ all_to-same n (λ c. p (at (take n l) c)) (λ c. p (at l c)) (λ c h. ap p (get_or-take n l c 0 h))
 
--- a row off which a part as long as it is taken
-pub off_part : (a e : ℕ) (l row : List ℕ) → e ≡ a + length row →
-    tab (length row) (λ c. at row c - at (mid_of a (e - a) l) c) ≡ tab (length row) (λ c. at row c - at l (a + c))
-off_part a e l row end =
-    tab-same (length row) (λ c. at row c - at (mid_of a (e - a) l) c) (λ c. at row c - at l (a + c))
-    (λ c h. ap (λ x. at row c - x) (at_mid a (e - a) l c (omega arith)))
-
 -- a table cut into rows of n words each: word c of row h is word n * h + c of the table
 pub at-row : (n k h c : ℕ) (l : List ℕ) → h < k → c < n → at (get_or (first_chunks n k l) h []) c ≡ at l (n * h + c)
 at-row n zero h c l few inside = absurd (omega arith)

@@ -1,5 +1,5 @@
 -- `state::of_holder` meets its contract: after i turns the sum is that of the first i interties.
-use Rattle.base.proofs.Prelude.{ℕ, ◌+◌, ◌-◌, ◌*◌, ◌≤◌, ◌≡◌, List, sum_to, at}
+use Rattle.base.proofs.Prelude.{ℕ, ◌+◌, ◌*◌, ◌≤◌, ◌≡◌, List, sum_to, at}
 use Rattle.state.specs.Layout.{place}
 use Rattle.state.proofs.of_holder.Given as goal
 
