@@ -1,11 +1,11 @@
 -- A loop that writes a row number by number: what it has after some turns, with laws for none, for one more and for all of them.
 use Prim.Native.Nat.{ℕ, ◌+◌, ◌≤◌, ◌<◌, zero-le}
-use mathlib.Core.Path.{◌≡◌, refl, sym, ap, ◌∙◌}
+use mathlib.Core.Path.{◌≡◌, refl, sym, ◌∙◌}
 use mathlib.Core.List.{List}
 use native.Mathlib.Omega.{arith}
 use lib.ListN.{length, set, length-set}
 use Rattle.base.specs.Words.{at, fill}
-use Rattle.base.proofs.WordLaws.{fill-zero, fill-place, fill-turn, fill_done, length-fill}
+use Rattle.base.proofs.WordLaws.{fill-zero, fill-place, fill-turn, fill_done}
 
 -- the first c numbers of n of a row are written
 pub record Filled (f : ℕ → ℕ) (n : ℕ) (first row : List ℕ) (c : ℕ) : Type 0 where
@@ -25,12 +25,9 @@ module _ (f : ℕ → ℕ) (n : ℕ) (first : List ℕ) where
   filled-all row c r l = fill_done c n f first row r.written r.inside l
 
   -- where the count is another by name
-  pub filled-to : (row : List ℕ) (c k : ℕ) → Filled f n first row c → n ≤ c → n ≡ k → row ≡ fill k f first
-  filled-to row c k r l e = rw (← e) (filled-all row c r l)
+  pub filled_to : (row : List ℕ) (c k : ℕ) → Filled f n first row c → n ≤ c → n ≡ k → row ≡ fill k f first
+  filled_to row c k r l e = rw (← e) (filled-all row c r l)
 
   -- a number that is to come is as it was
   pub filled-later : (row : List ℕ) (c : ℕ) → Filled f n first row c → at row c ≡ at first c
   filled-later row c r = fill-place c f first row r.written
-
-pub filled-size : (f : ℕ → ℕ) (n k : ℕ) (first row : List ℕ) → row ≡ fill n f first → length first ≡ k → length row ≡ k
-filled-size f n k first row e size = ap length e ∙ length-fill n f first ∙ size

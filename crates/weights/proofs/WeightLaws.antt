@@ -1,7 +1,6 @@
 -- The sellers of a mask, counted as its ones, and the weight of a holder.
 use Prim.Native.Nat.{ℕ, zero, suc, ◌+◌, ◌*◌, ◌/◌, ◌%◌, ◌^◌, ◌≤◌, ◌<◌}
 use mathlib.Core.Path.{◌≡◌, refl, sym, ap, ◌∙◌}
-use mathlib.Core.Bool.{Bool, true, false}
 use mathlib.Core.List.{List}
 use native.Mathlib.Nat.{mod-one, mod-eq_of_lt, mod-lt, div-zero}
 use native.Mathlib.Numerals.{one-add}
@@ -9,12 +8,11 @@ use native.Mathlib.Omega.{arith}
 use lib.Count.{ones, ones_cat}
 use lib.Pow.{pow_pos, mod-pow-add}
 use lib.ListN.{length}
-use lib.Dec.{leb}
-use borrow.Author.Tests.{ne_eqb, le-leb, leb-true}
+use borrow.Author.Tests.{ne_eqb, le-leb}
 use Rattle.base.specs.Limits.{state_words}
 use Rattle.base.specs.Sums.{sum_to}
 use Rattle.base.specs.Words.{fill}
-use Rattle.base.proofs.ChoiceLaws.{pick-by, pick_true, pick-false, and_left, and_right}
+use Rattle.base.proofs.ChoiceLaws.{pick-by}
 use Rattle.base.proofs.WordLaws.{length-fill}
 use Rattle.state.specs.Layout.{holders, load_share_of, sellers_of}
 use Rattle.weights.specs.Weight.{seller_bit, sellers_count, sellers_load, average_load, weight_of, weighable, weighed}
@@ -61,22 +59,22 @@ module _ (s : List ℕ) (h n mask held count : ℕ) (a : n ≡ holders s) (b : m
   unfolding sellers_count
   counted = e ∙ ap ones d ∙ ones-of n mask ∙ rw (a, b)
 
-  pub no-average : count ≡ 0 → 0 ≡ average_load s h
+  pub no_average : count ≡ 0 → 0 ≡ average_load s h
   unfolding average_load
-  no-average none = sym (ap (λ k. sellers_load s h / k) (sym counted ∙ none) ∙ div-zero (sellers_load s h))
+  no_average none = sym (ap (λ k. sellers_load s h / k) (sym counted ∙ none) ∙ div-zero (sellers_load s h))
 
-  pub some-average : (load : ℕ) → load ≡ sum_to n (λ j. seller_bit mask j * load_share_of s j) → load / count ≡ average_load s h
+  pub some_average : (load : ℕ) → load ≡ sum_to n (λ j. seller_bit mask j * load_share_of s j) → load / count ≡ average_load s h
   unfolding average_load sellers_load
-  some-average load f = rw (counted, f, a, b)
+  some_average load f = rw (counted, f, a, b)
 
 -- the weight: the load share, and the average where it is 0
-pub own-load : (s : List ℕ) (h load : ℕ) → load ≡ load_share_of s h → (load ≡ 0 → ⊥) → load ≡ weight_of s h
+pub own_load : (s : List ℕ) (h load : ℕ) → load ≡ load_share_of s h → (load ≡ 0 → ⊥) → load ≡ weight_of s h
 unfolding weight_of
-own-load s h load e some = rw (← e, ne_eqb load 0 some)
+own_load s h load e some = rw (← e, ne_eqb load 0 some)
 
-pub sellers-average : (s : List ℕ) (h load r : ℕ) → load ≡ load_share_of s h → load ≡ 0 → r ≡ average_load s h → r ≡ weight_of s h
+pub sellers_average : (s : List ℕ) (h load r : ℕ) → load ≡ load_share_of s h → load ≡ 0 → r ≡ average_load s h → r ≡ weight_of s h
 unfolding weight_of
-sellers-average s h load r e none f = rw (← e, none) f
+sellers_average s h load r e none f = rw (← e, none) f
 
 -- what a state of its words and at most 32 holders gives
 pub weighed-is : (s l : List ℕ) → state_words ≤ length s → holders s ≤ 32 → weighed s l ≡ fill (holders s) (weight_of s) l
@@ -87,16 +85,3 @@ weighed-length s l =
     pick-by (λ (w : List ℕ). length w ≡ length l) (weighable s) (fill (holders s) (weight_of s) l) l
     (λ _. length-fill (holders s) (weight_of s) l)
     (λ _. refl)
-
--- the same from the test that was made
-module _ (s : List ℕ) (b : Bool) (e : b ≡ weighable s) where
-  pub weighable-room : b ≡ true → (state_words ≤ length s) × (holders s ≤ 32)
-  weighable-room t =
-      let fit : weighable s ≡ true = sym e ∙ t in
-      (leb-true state_words (length s) (and_left (leb state_words (length s)) (leb (holders s) 32) fit), leb-true (holders s) 32 (and_right (leb state_words (length s)) (leb (holders s) 32) fit))
-
-  pub weighed-done : (l after : List ℕ) → b ≡ true → after ≡ fill (holders s) (weight_of s) l → after ≡ weighed s l
-  weighed-done l after t done = done ∙ sym (pick_true (weighable s) _ l (sym e ∙ t))
-
-  pub weighed-not : (l : List ℕ) → b ≡ false → l ≡ weighed s l
-  weighed-not l f = sym (pick-false (weighable s) _ l (sym e ∙ f))

@@ -2,78 +2,140 @@
 // is 0. Apart from closing for the prover's time.
 #![tactic(auto)]
 
-ghost use Rattle.std.specs.Prelude.{◌≡◌, ℕ, ◌*◌, ◌%◌, ◌^◌, ◌≤◌, ◌<◌, length};
+ghost use Rattle.std.specs.Prelude.{◌≡◌, ℕ, ◌*◌, ◌%◌, ◌^◌, ◌≤◌, ◌<◌, Some, None};
 ghost use Rattle.std.specs.Int.Count.{ones};
-ghost use Rattle.base.specs.Limits.{state_words, most_holders};
+ghost use Rattle.base.specs.Choice.{pick};
+ghost use Rattle.base.specs.Limits.{most_holders};
 ghost use Rattle.base.specs.Sums.{sum_to};
 ghost use Rattle.base.specs.Words.{fill};
-ghost use Rattle.state.specs.Layout.{holders, load_share_of};
+ghost use Rattle.state.specs.Layout.{holders, load_share_of, sellers_of};
 ghost use Rattle.weights.specs.Weight.{seller_bit, average_load, weight_of, weighable, weighed};
 
 use base::limits::{MOST_HOLDERS, STATE_WORDS};
 use state::layout;
 use state::layout::ROW_WORDS;
+use std::marker::Model;
 
 // Writes each holder's weight. Does nothing where the state is under 16,000 words or has over 32 holders.
 pub fn weigh(state: &[u32], weights: &mut [u64; MOST_HOLDERS])
     ensures { weights.new ≡ weighed state.now weights.old }
 {
-    if has_weights(state) {
-        write_weights(state, weights);
+    if let Some(holders) = Holders::of(state) {
+        holders.write_weights(weights);
     }
 }
 
-// Whether a state has its words and at most 32 holders.
-fn has_weights(state: &[u32]) -> bool
-    ensures { result ≡ weighable state.now }
-{
-    (STATE_WORDS <= state.len()) & (state::holder_count(state) as usize <= MOST_HOLDERS)
+// The holders, at most 32, of a state that has its words; a clause sees the words.
+#[derive(Drop)]
+struct Holders<'a> {
+    words: &'a [u32],
+    count: u32,
 }
 
-// Writes each holder's weight.
-fn write_weights(state: &[u32], weights: &mut [u64; MOST_HOLDERS])
-    requires { (state_words ≤ length state.now) × (holders state.now ≤ most_holders) }
-    ensures { let s = state.now in weights.new ≡ fill (holders s) (weight_of s) weights.old }
-{
-    let holders = state::holder_count(state);
-    for holder in 0..holders {
-        weights[holder as usize] = weight(state, holder);
+impl<'a> Model for Holders<'a> {
+    ghost use Rattle.std.specs.Prelude.{ℕ, List};
+    ghost use Rattle.weights.specs.Workers.Count.{Counted};
+
+    ghost Value = { List ℕ };
+
+    ghost view = { λ holders. holders.words.now };
+
+    ghost invariant = { λ holders. Counted holders.words.now holders.count };
+}
+
+impl<'a> Holders<'a> {
+    // None where a state is under 16,000 words or has over 32 holders.
+    fn of(state: &'a [u32]) -> Option<Holders<'a>>
+        ensures { let s = state.now in result ≡ pick (weighable s) (Some s) None }
+    {
+        let count = state::holder_count(state);
+        if (STATE_WORDS <= state.len()) & (count as usize <= MOST_HOLDERS) {
+            Some(Holders {
+                words: state,
+                count,
+            })
+        } else {
+            None
+        }
     }
 }
 
-// A holder's weight.
-fn weight(state: &[u32], holder: u32) -> u64
-    requires { (state_words ≤ length state.now) × (holders state.now ≤ most_holders) }
-    ensures { result ≡ weight_of state.now holder }
-{
-    let load = state::word(state, layout::LOAD_SHARE, holder) as u64;
-    if load == 0 {
-        return average_load(state, holder);
+impl Holders<'_> {
+    // H.
+    fn count(&self) -> u32
+        ensures { (result ≡ holders self.now) × (result ≤ most_holders) }
+    {
+        self.count
     }
-    load
-}
 
-// The average load share of a holder's sellers, each counted once; 0 without sellers.
-fn average_load(state: &[u32], holder: u32) -> u64
-    requires { (state_words ≤ length state.now) × (holders state.now ≤ most_holders) }
-    ensures { result ≡ average_load state.now holder }
-{
-    let holders = state::holder_count(state);
-    let sellers = state::word(state, layout::SELLERS, holder);
-    let mask = of_holders(sellers, holders);
-    let count = seller_count(mask);
-    if count == 0 {
-        return 0;
+    // A holder's load share.
+    fn load_share(&self, holder: u32) -> u32
+        requires { holder < holders self.now }
+        ensures { result ≡ load_share_of self.now holder }
+    {
+        self.words[ROW_WORDS * (layout::LOAD_SHARE as usize) + (holder as usize)]
     }
-    sellers_load(state, sellers, holders) / count
-}
 
-// A mask of sellers without the bits that stand for no holder.
-fn of_holders(sellers: u32, holders: u32) -> u32
-    requires { holders ≤ most_holders }
-    ensures { result ≡ sellers % 2 ^ holders }
-{
-    ((sellers as u64) % (1u64 << holders)) as u32
+    // A holder's sellers.
+    fn sellers(&self, holder: u32) -> u32
+        ensures { result ≡ sellers_of self.now holder }
+    {
+        state::word(self.words, layout::SELLERS, holder)
+    }
+
+    // Writes each holder's weight.
+    fn write_weights(&self, weights: &mut [u64; MOST_HOLDERS])
+        ensures { let s = self.now in weights.new ≡ fill (holders s) (weight_of s) weights.old }
+    {
+        for holder in 0..self.count() {
+            weights[holder as usize] = self.weight(holder);
+        }
+    }
+
+    // A holder's weight.
+    #[tactic(auto, using(crate::proofs::WeightLaws::own_load, crate::proofs::WeightLaws::sellers_average))]
+    fn weight(&self, holder: u32) -> u64
+        requires { holder < holders self.now }
+        ensures { result ≡ weight_of self.now holder }
+    {
+        let load = self.load_share(holder) as u64;
+        if load == 0 {
+            return self.average_load(holder);
+        }
+        load
+    }
+
+    // The average load share of a holder's sellers, each counted once; 0 without sellers.
+    #[tactic(auto, using(crate::proofs::WeightLaws::no_average, crate::proofs::WeightLaws::some_average))]
+    fn average_load(&self, holder: u32) -> u64
+        ensures { result ≡ average_load self.now holder }
+    {
+        let sellers = self.sellers(holder);
+        let mask = self.among_holders(sellers);
+        let count = seller_count(mask);
+        if count == 0 {
+            return 0;
+        }
+        self.sellers_load(sellers) / count
+    }
+
+    // A mask of sellers without the bits that stand for no holder.
+    fn among_holders(&self, sellers: u32) -> u32
+        ensures { result ≡ sellers % 2 ^ holders self.now }
+    {
+        ((sellers as u64) % (1u64 << self.count())) as u32
+    }
+
+    // The load shares of the sellers of a mask together.
+    fn sellers_load(&self, sellers: u32) -> u64
+        ensures { let s = self.now in result ≡ sum_to (holders s) (λ (j : ℕ). seller_bit sellers j * load_share_of s j) }
+    {
+        let mut load: u64 = 0;
+        for holder in 0..self.count() {
+            load += load_if_seller(sellers, holder, self.load_share(holder));
+        }
+        load
+    }
 }
 
 // How many sellers a mask has: its ones.
@@ -81,19 +143,6 @@ fn seller_count(sellers: u32) -> u64
     ensures { result ≡ ones sellers }
 {
     u32::count_ones(sellers) as u64
-}
-
-// The load shares of the sellers of a mask together.
-fn sellers_load(state: &[u32], sellers: u32, holders: u32) -> u64
-    requires { (state_words ≤ length state.now) × (holders ≤ most_holders) }
-    ensures { result ≡ sum_to holders (λ (j : ℕ). seller_bit sellers j * load_share_of state.now j) }
-{
-    let first = ROW_WORDS * (layout::LOAD_SHARE as usize);
-    let mut load: u64 = 0;
-    for holder in 0..holders {
-        load += load_if_seller(sellers, holder, state[first + (holder as usize)]);
-    }
-    load
 }
 
 // A holder's load share if it is a seller of the mask, else 0.

@@ -1,11 +1,8 @@
-use Rattle.weights.proofs.FillLaws.{filled_none, filled_next, filled-to}
-use Rattle.weights.proofs.write_weights.Goals as goal
+use Rattle.weights.proofs.FillLaws.{filled_none, filled_next}
+use Rattle.weights.proofs.Holders.write_weights.Goals as goal
 
 pub loop-holder-init : goal.loop-holder-init
 loop-holder-init c = search filled_none
 
 pub loop-holder-preserved : goal.loop-holder-preserved
 loop-holder-preserved c = search filled_next
-
-pub returns : goal.returns
-returns c = search filled-to

@@ -1,18 +1,18 @@
--- `of_holders` meets its contract: the shift is a power of 2, and what it leaves over is no more than the mask.
+-- `among_holders` meets its contract: the shift is a power of 2, and what it leaves over is no more than the mask.
 use Rattle.base.proofs.Prelude.{ℕ, ◌*◌, ◌%◌, ◌^◌, ◌≤◌, ◌≡◌, ap, ◌∙◌, arith}
 use native.Mathlib.Nat.{one-mul, mod-le, lt_of_le_of_lt}
 use lib.Pow.{shl_exact, pow_pos}
-use Rattle.weights.proofs.of_holders.Goals as goal
+use Rattle.weights.proofs.Holders.among_holders.Goals as goal
 
 -- the shift is a power of 2
 shifted : (n : ℕ) → n ≤ 32 → (1 * 2 ^ n) % 2 ^ 64 ≡ 2 ^ n
 shifted n l = shl_exact {a = 1} 1 n 64 (omega arith) (omega arith) ∙ one-mul (2 ^ n)
 
 pub nonzero_rem-result : goal.nonzero_rem-result
-nonzero_rem-result c = rw (shifted c.args.holders c.requires) (pow_pos c.args.holders)
+nonzero_rem-result c = rw (shifted c.count.result c.count.ensures.1) (pow_pos c.count.result)
 
 pub overflow_cast-result-3 : goal.overflow_cast-result-3
 overflow_cast-result-3 c = record { fits = lt_of_le_of_lt (mod-le c.args.sellers _) c.ranges.sellers.fits }
 
 pub returns : goal.returns
-returns c = ap (λ (k : ℕ). c.args.sellers % k) (shifted c.args.holders c.requires)
+returns c = ap (λ (k : ℕ). c.args.sellers % k) (shifted c.count.result c.count.ensures.1 ∙ ap (λ (k : ℕ). 2 ^ k) c.count.ensures.0)
