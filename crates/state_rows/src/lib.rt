@@ -14,7 +14,8 @@ use state::layout::{LAST_ROW, ROW_WORDS, WHOLE_ROWS};
 // 2^32: how many values a word has.
 const WORD_VALUES: u64 = 4_294_967_296;
 
-// How a word of the state is changed by what stands at a place of a table.
+// How a word of the state is changed by what stands at a place of a table. (A place and no number, since what clears has no
+// table; it is an index that none of these moves on.)
 trait Change {
     // The places that the table has.
     ghost places: { Self → ℕ };
@@ -74,6 +75,7 @@ impl Change for Cleared {
 }
 
 // Changes the first columns of a row by a table, from one of its places on.
+#[tactic(auto, unfolding(crate::specs::Rows::fill_row))]
 fn change_row<C: Change>(state: &mut [u32], row: usize, count: usize, table: &C, from: usize)
     requires { (state_words ≤ length state.old) × (row < whole_rows) × (count ≤ row_words) × (from + count ≤ C.places table.now)
         × (from + count < 2 ^ 64) }
@@ -87,6 +89,7 @@ fn change_row<C: Change>(state: &mut [u32], row: usize, count: usize, table: &C,
 }
 
 // Changes the first columns of as many rows by the rows of a table, 48 places a row.
+#[tactic(auto, unfolding(crate::specs::Rows::fill_pairs))]
 fn change_rows<C: Change>(
     state: &mut [u32],
     field: usize,

@@ -1,11 +1,8 @@
-use Rattle.base.proofs.Prelude.{ℕ, ◌+◌, ◌≡◌, sym, ap, ◌∙◌, arith, at}
+use Rattle.base.proofs.Prelude.{ℕ, ◌+◌, ◌≡◌, ap, ◌∙◌, arith, at}
 use native.Mathlib.Nat.{le_refl}
 use Rattle.state.specs.Layout.{place}
-use Rattle.state_rows.proofs.RowLaws.{fill_row-none, fill_row-turn, fill_row_done, at-fill_row-past}
+use Rattle.state_rows.proofs.RowLaws.{fill_row-turn, at-fill_row-past}
 use Rattle.state_rows.proofs.change_row.Goals as goal
-
-pub loop-column-init : goal.loop-column-init
-loop-column-init g c = sym (fill_row-none _ _ _)
 
 pub loop-column-preserved : goal.loop-column-preserved
 loop-column-preserved g c =
@@ -18,6 +15,3 @@ loop-column-preserved g c =
     ∙ at-fill_row-past a.row l.column f s a.row l.column (omega arith) (omega arith) (le_refl l.column) in
     fill_row-turn a.row l.column f _ _ _ l.invariant
     (c.change.ensures ∙ ap (λ w. g.C.Change.gives a.table.now w (a.from + l.column)) word)
-
-pub returns : goal.returns
-returns g c = fill_row_done _ _ _ _ _ _ c.loop-column.invariant (omega arith) (omega arith)

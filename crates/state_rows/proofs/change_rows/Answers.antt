@@ -1,12 +1,9 @@
-use Rattle.base.proofs.Prelude.{ℕ, ◌+◌, ◌<◌, ◌≡◌, sym, ap, ◌∙◌, arith, at}
+use Rattle.base.proofs.Prelude.{ℕ, ◌+◌, ◌<◌, ◌≡◌, ap, ◌∙◌, arith, at}
 use mathlib.Core.Logic.{inr}
 use native.Mathlib.Nat.{le_refl}
 use Rattle.state.specs.Layout.{place}
-use Rattle.state_rows.proofs.RowLaws.{fill_row-same, fill_pairs-none, fill_pairs-turn, fill_pairs_done, at-fill_pairs-apart}
+use Rattle.state_rows.proofs.RowLaws.{fill_row-same, fill_pairs-turn, at-fill_pairs-apart}
 use Rattle.state_rows.proofs.change_rows.Goals as goal
-
-pub loop-holder-init : goal.loop-holder-init
-loop-holder-init g c = sym (fill_pairs-none _ _ _ _)
 
 pub loop-holder-preserved : goal.loop-holder-preserved
 loop-holder-preserved g c =
@@ -22,6 +19,3 @@ loop-holder-preserved g c =
     c.change_row.ensures
     ∙ fill_row-same row a.interties _ (f l.holder) l.state (λ i b. ap (λ w. g.C.Change.gives a.table.now w (place l.holder i)) (word i b))
     ∙ fill_pairs-turn a.field l.holder a.interties f _ _ l.invariant
-
-pub returns : goal.returns
-returns g c = fill_pairs_done _ _ _ _ _ _ _ c.loop-holder.invariant (omega arith) (omega arith)
