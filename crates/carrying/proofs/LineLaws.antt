@@ -1,11 +1,10 @@
 -- Lists of lines with one line more, and the lines that are kept of a sheet.
-use Rattle.std.proofs.Common.{ℕ, zero, suc, ◌+◌, ◌≤◌, ◌<◌, max, ◌≡◌, refl, sym, ap, ◌∙◌, Bool, true, false, ◌&&◌, ◌≢◌, ⊎_elim, List, [], ◌∷◌, ◌++◌, append-nil, add-zero, le_refl, lt-suc_self, not-suc-le-zero, add-one, arith, eqb, ltb, length, length-append, get_or-append-add, ne_eqb}
+use Rattle.std.proofs.Common.{ℕ, zero, suc, ◌+◌, ◌≤◌, ◌<◌, max, ◌≡◌, refl, sym, ap, ◌∙◌, Bool, true, false, ◌≢◌, ⊎_elim, List, [], ◌∷◌, ◌++◌, append-nil, add-zero, le_refl, lt-suc_self, not-suc-le-zero, add-one, arith, eqb, ltb, length, length-append, get_or-append-add, ne_eqb}
 use native.Mathlib.Nat.{max-zero, zero-max, le_step}
 use lib.ListN.{get_or-append}
 use Rattle.base.specs.Choice.{pick}
-use Rattle.base.proofs.ChoiceLaws.{pick-by, and-false}
+use Rattle.base.proofs.ChoiceLaws.{and-false}
 use Rattle.base.proofs.SumLaws.{below_suc}
-use Rattle.sheet_keys.specs.Key.{kind_of, holder_of, rank_of}
 use Rattle.sheet_records.specs.Sheet.{count, key_at, kw_at}
 use Rattle.state.specs.Layout.{interties, holders, locked_of}
 use Rattle.carrying.specs.Line.{Line, line_in}
@@ -59,20 +58,6 @@ kept-few s (suc k) =
     either_way (λ (l : List Line). length l ≤ suc k) (goes_on (key_at s k)) (kept s k) x
     (λ _. omega (arith, length_more (kept s k) x))
     (λ _. omega arith)
-
-rank-small : (h : ℕ) (key quantity : ℕ) → rank_for h (next_line key quantity) ≤ 255
-rank-small h key quantity =
-    pick-by (λ (n : ℕ). n ≤ 255) (eqb (kind_of key) 6 && eqb (holder_of key) h) (rank_of key) 0 (λ _. omega arith) (λ _. omega arith)
-
-pub kept_low : (s : List ℕ) (k h : ℕ) → highest h (kept s k) ≤ 255
-unfolding kept
-kept_low s zero h = omega (arith, highest-none h)
-kept_low s (suc k) h =
-    let before : highest h (kept s k) ≤ 255 = kept_low s k h in
-    let x : Line = next_line (key_at s k) (kw_at s k) in
-    either_way (λ (l : List Line). highest h l ≤ 255) (goes_on (key_at s k)) (kept s k) x
-    (λ _. rw (highest-more h (kept s k) x) (omega (arith, rank-small h (key_at s k) (kw_at s k))))
-    (λ _. before)
 
 -- what holds of each line
 abbrev pub AllLines : (Line → Type 0) → List Line → Type 0

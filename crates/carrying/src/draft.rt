@@ -25,7 +25,8 @@ use std::marker::Model;
 const PLACES: usize = MOST_RECORDS + MOST_PAIRS;
 
 // A draft: the keys of its records, their quantities, how many there are, and each holder's highest rank among them. Keys and
-// quantities are two arrays, since the bytes of a sheet have them so.
+// quantities are two arrays, since the bytes of a sheet have them so; the count stands beside them, since a record is written
+// before it is known whether it counts.
 #[derive(Drop)]
 pub(crate) struct Draft {
     keys: [u32; PLACES],
