@@ -103,9 +103,6 @@ sums-turn sums next n kw before e long held i l =
     ∙ ap (λ (x : ℕ). (x + kw i) % 2 ^ 32) (held i l)
     ∙ mod-add-mod (before i) (2 ^ 32) (kw i)
 
-filled-places : (sums next : List ℕ) (n : ℕ) (f : ℕ → ℕ) → next ≡ fill n f sums → length sums ≡ 48 → length next ≡ 48
-filled-places sums next n f e long = ap (λ (k : List ℕ). length k) e ∙ length-fill n f sums ∙ long
-
 -- the first m numbers, and n after them
 sum_to-split : (m n : ℕ) (f : ℕ → ℕ) → sum_to m f + sum_to n (λ k. f (m + k)) ≡ sum_to (m + n) f
 unfolding sum_to

@@ -31,11 +31,6 @@ term-test (suc l) (suc t) =
     let one : leb 1 (suc t) ≡ true = le-leb 1 (suc t) (omega arith) in
     rw (eqb-suc-zero l, eqb-suc-zero t, some, one) (and-true (leb (suc t) 30))
 
-lock-test : (placed locked term : ℕ) → (leb locked placed && leb term 30 && beq (eqb locked 0) (eqb term 0)) ≡ lock_fits placed locked term
-lock-test placed locked term =
-    and_assoc (leb locked placed) (leb term 30) (beq (eqb locked 0) (eqb term 0))
-    ∙ ap (λ (b : Bool). leb locked placed && b) (term-test locked term)
-
 -- locked and terms of every pair together
 pub locks_are : (s : List ℕ) → all_to (holders s) (λ h. all_to (interties s) (λ i. pair_lock_fits s h i)) ≡ (locked_within_placed s && terms_fit s)
 unfolding locked_within_placed terms_fit

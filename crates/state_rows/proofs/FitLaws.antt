@@ -4,8 +4,8 @@ use mathlib.Core.Path.{◌≡◌, ◌∙◌}
 use mathlib.Core.List.{List}
 use lib.ListN.{length}
 use mathlib.Core.Bool.{true, ◌&&◌}
-use lib.Dec.{leb, ltb}
-use borrow.Author.Tests.{leb-true, ltb-true, le-leb, lt-ltb}
+use lib.Dec.{leb}
+use borrow.Author.Tests.{leb-true, le-leb, lt-ltb}
 use Rattle.base.proofs.ChoiceLaws.{and_left, and_right, pick_true}
 use Rattle.base.specs.Limits.{state_words}
 use Rattle.state_rows.specs.Rows.{fill_pairs, fit_row, fit_field, fit_pairs, cleared_pairs}
@@ -15,17 +15,6 @@ pub record FitRow (words row n values : ℕ) : Type 0 where
   pub whole : row < 333
   pub narrow : n ≤ 48
   pub filled : n ≤ values
-
-pub fits-row : (words row n values : ℕ) → fit_row words row n values ≡ true → FitRow words row n values
-fits-row words row n values e =
-    let e₃ = and_left (leb state_words words && ltb row 333 && leb n 48) (leb n values) e in
-    let e₂ = and_left (leb state_words words && ltb row 333) (leb n 48) e₃ in
-    record {
-      long = leb-true state_words words (and_left (leb state_words words) (ltb row 333) e₂);
-      whole = ltb-true row 333 (and_right (leb state_words words) (ltb row 333) e₂);
-      narrow = leb-true n 48 (and_right (leb state_words words && ltb row 333) (leb n 48) e₃);
-      filled = leb-true n values (and_right (leb state_words words && ltb row 333 && leb n 48) (leb n values) e);
-    }
 
 pub row_fits : (words row n values : ℕ) → FitRow words row n values → fit_row words row n values ≡ true
 row_fits words row n values f =
@@ -63,17 +52,6 @@ pub record FitPairs (words field m n values : ℕ) : Type 0 where
   pub few : m ≤ 32
   pub narrow : n ≤ 48
   pub filled : 1536 ≤ values
-
-pub fits-pairs : (words field m n values : ℕ) → fit_pairs words field m n values ≡ true → FitPairs words field m n values
-fits-pairs words field m n values e =
-    let f = fits-field words field m n (and_left (fit_field words field m n) (leb 1536 values) e) in
-    record {
-      long = f.long;
-      low = f.low;
-      few = f.few;
-      narrow = f.narrow;
-      filled = leb-true 1536 values (and_right (fit_field words field m n) (leb 1536 values) e);
-    }
 
 pub pairs-fit : (words field m n values : ℕ) → FitPairs words field m n values → fit_pairs words field m n values ≡ true
 pairs-fit words field m n values f =

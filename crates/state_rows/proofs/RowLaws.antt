@@ -62,10 +62,6 @@ pub fill_row-none : (row : ℕ) (f : ℕ → ℕ) (s : List ℕ) → fill_row ro
 unfolding fill_row
 fill_row-none row f s = refl
 
--- the end of such a loop
-pub fill_row_done : (row n m : ℕ) (f : ℕ → ℕ) (s g : List ℕ) → g ≡ fill_row row n f s → n ≤ m → m ≤ n → g ≡ fill_row row m f s
-fill_row_done row n m f s g e a b = let same : n ≡ m = omega arith in rw (← same) e
-
 -- the same values write the same row
 pub fill_row-same : (row n : ℕ) (f g : ℕ → ℕ) (s : List ℕ) → ((c : ℕ) → c < n → f c ≡ g c) → fill_row row n f s ≡ fill_row row n g s
 unfolding fill_row
@@ -74,11 +70,6 @@ fill_row-same row (suc n) f g s h =
     let e : fill_row row n f s ≡ fill_row row n g s = fill_row-same row n f g s (λ c l. h c (le_step l)) in
     let t : f n ≡ g n = h n (lt-suc_self n) in
     cc
-
--- the rows below and past a row that is written
-pub same-fill_row-below : (a b row n : ℕ) (f : ℕ → ℕ) (s : List ℕ) → n ≤ 48 → row < a → SameRows a b s (fill_row row n f s)
-same-fill_row-below a b row n f s most below =
-    record { same = λ r c l m k. at-fill_row-apart row n f s r c most k (omega arith) }
 
 pub same-fill_row-past : (a b row n : ℕ) (f : ℕ → ℕ) (s : List ℕ) → n ≤ 48 → b ≤ row → SameRows a b s (fill_row row n f s)
 same-fill_row-past a b row n f s most past =
@@ -114,20 +105,9 @@ at-fill_pairs-apart field (suc m) n f s r c most l apart =
     at-fill_row-apart (field + m) n (f m) (fill_pairs field m n f s) r c most l other
     ∙ at-fill_pairs-apart field m n f s r c most l (⊎_elim (λ (b : r < field). inl b) (λ (p : field + suc m ≤ r). inr (omega arith)) apart)
 
--- a column past those written
-pub at-fill_pairs-past : (field m n : ℕ) (f : ℕ → ℕ → ℕ) (s : List ℕ) (r c : ℕ) → n ≤ 48 → c < 48 → n ≤ c →
-    at (fill_pairs field m n f s) (place r c) ≡ at s (place r c)
-unfolding fill_pairs
-at-fill_pairs-past field zero n f s r c most l past = refl
-at-fill_pairs-past field (suc m) n f s r c most l past =
-    at-fill_row-past (field + m) n (f m) (fill_pairs field m n f s) r c most l past ∙ at-fill_pairs-past field m n f s r c most l past
-
 pub fill_pairs-none : (field n : ℕ) (f : ℕ → ℕ → ℕ) (s : List ℕ) → fill_pairs field 0 n f s ≡ s
 unfolding fill_pairs
 fill_pairs-none field n f s = refl
-
-pub fill_pairs_done : (field n m interties : ℕ) (f : ℕ → ℕ → ℕ) (s g : List ℕ) → g ≡ fill_pairs field n interties f s → n ≤ m → m ≤ n → g ≡ fill_pairs field m interties f s
-fill_pairs_done field n m interties f s g e a b = let same : n ≡ m = omega arith in rw (← same) e
 
 -- a turn of a loop that writes a field row by row
 pub fill_pairs-turn : (field m n : ℕ) (f : ℕ → ℕ → ℕ) (s g : List ℕ) → g ≡ fill_pairs field m n f s →
@@ -143,11 +123,6 @@ fill_pairs-same field zero n f g s h = refl
 fill_pairs-same field (suc m) n f g s h =
     ap (fill_row (field + m) n (f m)) (fill_pairs-same field m n f g s (λ j i k l. h j i (le_step k) l))
     ∙ fill_row-same (field + m) n (f m) (g m) (fill_pairs field m n g s) (λ i l. h m i (lt-suc_self m) l)
-
--- the rows below and past a field that is written
-pub same-fill_pairs-below : (a b field m n : ℕ) (f : ℕ → ℕ → ℕ) (s : List ℕ) → n ≤ 48 → field + m ≤ a → SameRows a b s (fill_pairs field m n f s)
-same-fill_pairs-below a b field m n f s most below =
-    record { same = λ r c l k j. at-fill_pairs-apart field m n f s r c most j (inr (omega arith)) }
 
 pub same-fill_pairs-past : (a b field m n : ℕ) (f : ℕ → ℕ → ℕ) (s : List ℕ) → n ≤ 48 → b ≤ field → SameRows a b s (fill_pairs field m n f s)
 same-fill_pairs-past a b field m n f s most past =

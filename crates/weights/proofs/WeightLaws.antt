@@ -12,10 +12,8 @@ use borrow.Author.Tests.{ne_eqb, le-leb}
 use Rattle.base.specs.Limits.{state_words}
 use Rattle.base.specs.Sums.{sum_to}
 use Rattle.base.specs.Words.{fill}
-use Rattle.base.proofs.ChoiceLaws.{pick-by}
-use Rattle.base.proofs.WordLaws.{length-fill}
 use Rattle.state.specs.Layout.{holders, load_share_of, sellers_of}
-use Rattle.weights.specs.Weight.{seller_bit, sellers_count, sellers_load, average_load, weight_of, weighable, weighed}
+use Rattle.weights.specs.Weight.{seller_bit, sellers_count, sellers_load, average_load, weight_of, weighed}
 
 bit-one : (bit : ℕ) → bit < 2 → ones bit ≡ bit
 unfolding ones
@@ -79,9 +77,3 @@ sellers_average s h load r e none f = rw (← e, none) f
 -- what a state of its words and at most 32 holders gives
 pub weighed-is : (s l : List ℕ) → state_words ≤ length s → holders s ≤ 32 → weighed s l ≡ fill (holders s) (weight_of s) l
 weighed-is s l long few = rw (le-leb state_words (length s) long, le-leb (holders s) 32 few)
-
-pub weighed-length : (s l : List ℕ) → length (weighed s l) ≡ length l
-weighed-length s l =
-    pick-by (λ (w : List ℕ). length w ≡ length l) (weighable s) (fill (holders s) (weight_of s) l) l
-    (λ _. length-fill (holders s) (weight_of s) l)
-    (λ _. refl)
