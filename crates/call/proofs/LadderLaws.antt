@@ -1,10 +1,10 @@
 -- Laws of refusals tried in turn: how a function that tries them answers, what the number 0 says of each, and what a call gives by its number.
 use Prim.Native.Nat.{ℕ, zero, suc, ◌<◌}
-use mathlib.Core.Path.{◌≡◌, refl, sym, ap, ◌∙◌}
+use mathlib.Core.Path.{◌≡◌, refl}
 use mathlib.Core.Bool.{Bool, true, false}
 use mathlib.Core.List.{List}
 use native.Mathlib.Omega.{arith}
-use lib.Dec.{T, ltb, eqb-suc-zero, ltb→lt}
+use lib.Dec.{eqb-suc-zero}
 use borrow.Author.Tests.{ne_eqb}
 use Rattle.base.specs.Answers.{refused}
 use Rattle.base.specs.declared.Answer.{Answer}

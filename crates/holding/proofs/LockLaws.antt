@@ -10,6 +10,8 @@ use lib.Dec.{ltb, eqb}
 use lib.ListN.{length, set, length-set}
 use borrow.Author.Tests.{ltb-false}
 use Rattle.base.specs.Sums.{sum_to}
+use Rattle.base.specs.Words.{at}
+use Rattle.base.proofs.SumLaws.{sum_to-bound}
 use Rattle.base.proofs.ChoiceLaws.{or_left, or_right}
 use Rattle.base.specs.Limits.{state_words}
 use Rattle.state.specs.Layout.{interties, holders, stage_of, step7_total_of, reserved_of, unassigned_of, unplaced_of, placed_of, taken_of, locked_at, locked_of, term_at, term_of, on_intertie, of_holder}
@@ -21,6 +23,11 @@ use Rattle.call.proofs.LadderLaws.{none_first, none-second, not-whenever, not_fi
 use Rattle.call.proofs.TestLaws.{is-holder, is-intertie, one-stage, kw-in-range, term-in-range}
 use Rattle.call.proofs.KeptLaws.{SameRequests, on-intertie-same, same-unplaced, same-unplaced-sum, pending-after, no-pending-after, sellers-after, orderly-after}
 use Rattle.holding.specs.Lock.{past_three_quarters, lock_refusal, lock_state}
+
+-- the locked words of a holder together, as words of 32 bits
+pub locked-most : (s : List ℕ) (h : ℕ) → interties s ≤ 48 → ((p : ℕ) → at s p < 4294967296) → of_holder locked_of s h ≤ 206158430160
+locked-most s h few word =
+    omega (arith, sum_to-bound (interties s) 4294967295 (λ i. locked_of s h i) (λ i l. omega (arith, word (locked_at h i))))
 
 -- what holds where no number applies
 pub record LockDone (s : List ℕ) (h i kw term : ℕ) : Type 0 where

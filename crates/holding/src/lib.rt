@@ -97,9 +97,9 @@ fn unfit_move(state: &[u32], giver: u32, taker: u32, intertie: u32) -> bool
 fn movable(state: &[u32], holder: u32, intertie: u32) -> u64
     ensures { let s = state.now in result ≡ placed_of s holder intertie - locked_of s holder intertie }
 {
-    let placed = state::pair_word(state, layout::PLACED, holder, intertie) as u64;
-    let locked = state::pair_word(state, layout::LOCKED, holder, intertie) as u64;
-    placed.saturating_sub(locked)
+    let placed = state::pair_word(state, layout::PLACED, holder, intertie);
+    let locked = state::pair_word(state, layout::LOCKED, holder, intertie);
+    u64::from(placed.saturating_sub(locked))
 }
 
 // Refusal 10: whether kW are more than the holder has placed above locked.
@@ -120,7 +120,7 @@ fn unfit_lock(kw: u64, term: u32) -> bool
 fn over_placed(state: &[u32], holder: u32, intertie: u32, kw: u64) -> bool
     ensures { result ≡ ltb (placed_of state.now holder intertie) kw }
 {
-    (state::pair_word(state, layout::PLACED, holder, intertie) as u64) < kw
+    u64::from(state::pair_word(state, layout::PLACED, holder, intertie)) < kw
 }
 
 // Refusal 13: whether the pair has a lock, or three quarters would be passed.
@@ -137,8 +137,8 @@ fn past_three_quarters(state: &[u32], holder: u32, kw: u64) -> bool
     requires { (interties state.now ≤ most_interties) × (kw ≤ most_kw) }
     ensures { result ≡ past_three_quarters state.now holder kw }
 {
-    let total = state::word(state, layout::STEP_7_TOTAL, holder) as u64;
-    let reserved = state::word(state, layout::RESERVED, holder) as u64;
+    let total = u64::from(state::word(state, layout::STEP_7_TOTAL, holder));
+    let reserved = u64::from(state::word(state, layout::RESERVED, holder));
     let locked = state::of_holder(state, layout::LOCKED, holder) + kw;
     3 * total < 4 * (reserved + locked)
 }

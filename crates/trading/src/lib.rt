@@ -83,19 +83,15 @@ fn over_unplaced(state: &[u32], holder: u32, kw: u64) -> bool
 fn over_unplaced_with_pending(state: &[u32], holder: u32, kw: u64) -> bool
     ensures { let s = state.now in result ≡ ltb (unplaced_of s holder) (of_holder pending_of s holder + kw) }
 {
-    let most = unplaced(state, holder);
     let pending = state::of_holder(state, layout::PENDING, holder);
-    if most < pending {
-        return true;
-    }
-    most - pending < kw
+    unplaced(state, holder) < pending.saturating_add(kw)
 }
 
 // A holder's unplaced kW.
 fn unplaced(state: &[u32], holder: u32) -> u64
     ensures { result ≡ unplaced_of state.now holder }
 {
-    state::word(state, layout::UNPLACED, holder) as u64
+    u64::from(state::word(state, layout::UNPLACED, holder))
 }
 
 // Takes the kW from the seller's unplaced to the buyer's, and puts the seller among the buyer's
@@ -125,7 +121,7 @@ fn add_pending(state: &mut [u32], holder: u32, intertie: u32, kw: u64)
     requires { request_refusal state.old holder intertie kw ≡ 0 }
     ensures { state.new ≡ request_state state.old holder intertie kw }
 {
-    let pending = state::pair_word(state, layout::PENDING, holder, intertie) as u64;
-    let more = pending + kw;
+    let pending = state::pair_word(state, layout::PENDING, holder, intertie);
+    let more = u64::from(pending) + kw;
     state::store_pair(state, layout::PENDING, holder, intertie, more as u32);
 }

@@ -1,5 +1,5 @@
 -- `take` meets its contract: what was not refused gives the kW and keeps the calendar.
-use Rattle.base.proofs.Prelude.{sym, ap, ◌∙◌, arith}
+use Rattle.base.proofs.Prelude.{sym, ap, arith}
 use Rattle.base.specs.Answers.{granted}
 use Rattle.call.proofs.LadderLaws.{is_done}
 use Rattle.taking.specs.Take.{take}
