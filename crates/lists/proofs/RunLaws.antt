@@ -1,5 +1,5 @@
 -- Laws of a run: what stands in the lent words after n calls, turn by turn.
-use Prim.Native.Nat.{ℕ, zero, suc, ◌+◌, ◌-◌, ◌*◌, ◌≤◌, ◌<◌, min, zero-le}
+use Prim.Native.Nat.{ℕ, zero, suc, ◌+◌, ◌*◌, ◌≤◌, ◌<◌, min, zero-le}
 use mathlib.Core.Path.{◌≡◌, refl, sym, ap, ◌∙◌}
 use mathlib.Core.Bool.{Bool, true, false}
 use mathlib.Core.List.{List, ◌++◌}
@@ -9,7 +9,6 @@ use lib.Dec.{eqb}
 use borrow.Author.Tests.{eqb-true}
 use lib.ListN.{length, take, drop}
 use lib.Seq.{drop-drop}
-use borrow.Rule.Slice.PartMut.{mid_of, mid_len}
 use Rattle.base.specs.Choice.{pick}
 use Rattle.base.proofs.ChoiceLaws.{pick-by}
 use Rattle.base.proofs.SumLaws.{sum_to-zero, sum_to-suc}
@@ -17,8 +16,8 @@ use Rattle.closing.specs.Close as Close
 use Rattle.closing.proofs.CloseLaws.{close-grants-length}
 use Rattle.balances.specs.Calls.{Result, result, after}
 use Rattle.balances.proofs.ListLaws.{after_last}
-use Rattle.lists.specs.Encoded.{call_count, words_of, is_closing, call_of, closings_before, lent_to, call_at, first_calls, calls_of, accepted, with_answer, with_lent, result_at, grants_after, answers_after, run}
-use Rattle.lists.proofs.EncodedLaws.{accepted-room, take-most, drop-most, closing-gives, put-length, put-past, Ran1}
+use Rattle.lists.specs.Encoded.{call_count, words_of, kind_of, known_kind, is_closing, call_of, closings_before, lent_to, call_at, first_calls, calls_of, accepted, with_answer, with_lent, result_at, grants_after, answers_after, run}
+use Rattle.lists.proofs.EncodedLaws.{accepted-room, accepted-known, take_most, drop-most, closing-gives, put-length, put-past, Ran1}
 
 -- a closing leaves its buffer as long as it was
 pub closed-length : (s lent : List ℕ) → length (Close.close s lent).grants ≡ length lent
@@ -64,7 +63,7 @@ start-turn false k next start size held begins a b c d = omega arith
 -- the grants with a closing's words put back: a place past the end is as good as the end
 put_same : (words g lent : List ℕ) (start from : ℕ) → start ≡ min from (length g) → with_lent words g start lent ≡ with_lent words g from lent
 put_same words g lent start from is =
-    let front : take start g ≡ take from g = ap (λ m. take m g) is ∙ take-most from g in
+    let front : take start g ≡ take from g = ap (λ m. take m g) is ∙ take_most from g in
     let back : drop start g ≡ drop from g = ap (λ m. drop m g) is ∙ drop-most from g in
     let past : drop (start + 1536) g ≡ drop (from + 1536) g =
     sym (drop-drop 1536 start g) ∙ ap (λ l. drop 1536 l) back ∙ drop-drop 1536 from g in
@@ -93,15 +92,6 @@ module _ (encoded s grants : List ℕ) where
       let kept = grants-kept n in
       grants-turn (is_closing (words_of encoded n)) (closings_before encoded n) (closings_before encoded (suc n)) (grants_after encoded s grants n)
       (result_at encoded s grants n).grants grants (closings-suc encoded n) (lent_length n) kept.0 kept.1
-
--- the six words of a call, lent as a part
-pub words_are : (encoded : List ℕ) (n : ℕ) → mid_of (6 * n) (6 * n + 6 - 6 * n) encoded ≡ words_of encoded n
-words_are encoded n =
-    let six : 6 * n + 6 - 6 * n ≡ 6 = omega arith in
-    ap (λ m. take m (drop (6 * n) encoded)) six
-
-pub words-length : (encoded : List ℕ) (n : ℕ) → n < call_count encoded → length (mid_of (6 * n) (6 * n + 6 - 6 * n) encoded) ≡ 6
-words-length encoded n l = mid_len (6 * n) (6 * n + 6) encoded (omega arith) ∙ (omega arith)
 
 -- after n calls
 pub record Running (encoded s grants answers : List ℕ) (n start : ℕ) (t h a : List ℕ) : Type 0 where
@@ -185,10 +175,10 @@ module _ (encoded s grants answers : List ℕ) where
         })
 
   -- what the next call asks
-  pub running-asks : {n start : ℕ} {t h a : List ℕ} → Running encoded s grants answers n start t h a → n < call_count encoded → accepted encoded (length answers) ≡ true →
-      (length (mid_of (6 * n) (6 * n + 6 - 6 * n) encoded) ≡ 6) × (3 * n + 2 < length a) × (start ≤ length h)
-  running-asks {n = n} running l e = (
-    words-length encoded n l,
+  pub running-asks : {n start : ℕ} {t h a words : List ℕ} → Running encoded s grants answers n start t h a → n < call_count encoded → accepted encoded (length answers) ≡ true →
+      words ≡ words_of encoded n → (known_kind (kind_of words) ≡ true) × (3 * n + 2 < length a) × (start ≤ length h)
+  running-asks {n = n} running l e are = (
+    ap (λ w. known_kind (kind_of w)) are ∙ accepted-known encoded (length answers) n e l,
     omega (arith, running.answers-size, accepted-room encoded (length answers) e),
     omega (arith, running.grants-size, running.start_is),
   )

@@ -1,2 +1,3 @@
 pub mod Encoded
 pub mod Left
+pub mod Workers

@@ -1,50 +1,67 @@
 // Calls as 32-bit words: whether words are a list of calls, and what the words of one say.
-ghost use Rattle.std.specs.Prelude.{◌≡◌, ℕ, ◌+◌, ◌*◌, ◌≤◌, min, length};
-ghost use Rattle.base.specs.Encoding.{call_words};
+ghost use Rattle.std.specs.Prelude.{◌≡◌, true, ℕ, ◌+◌, ◌≤◌, List, [], get_or, min, length};
+ghost use Rattle.base.specs.CallKind.{number_of};
 ghost use Rattle.base.specs.Limits.{grants_words};
 ghost use Rattle.base.specs.Sums.{all_to};
-ghost use Rattle.lists.specs.Encoded.{words_of, kind_of, known_kind, kw_of, accepted};
+ghost use Rattle.base.specs.Words.{at};
+ghost use Rattle.lists.specs.Encoded.{kind_of, known_kind, kw_of, accepted};
 
-use base::encoding;
-use base::encoding::{ANSWER_WORDS, CALL_WORDS};
+use base::encoding::{ANSWER_WORDS, CALL_WORDS, CallKind};
 use base::limits::GRANTS_WORDS;
+
+// A call as its words say it.
+#[derive(Clone, Copy)]
+pub(super) struct Call {
+    pub kind: CallKind,
+    pub a: u32,
+    pub b: u32,
+    pub c: u32,
+    pub kw: u64,
+}
+
+impl Call {
+    // The call of words whose kind is known.
+    pub(super) fn of(words: &[u32; CALL_WORDS]) -> Call
+        requires { known_kind (kind_of words.now) ≡ true }
+        ensures { let w = words.now in
+            (number_of result.kind ≡ at w 0) × (result.a ≡ at w 1) × (result.b ≡ at w 2) × (result.c ≡ at w 3)
+            × (result.kw ≡ kw_of (at w 4) (at w 5)) }
+    {
+        let [kind, a, b, c, low, high] = *words;
+        Call {
+            kind: CallKind::try_from(kind).unwrap(),
+            a,
+            b,
+            c,
+            kw: kw_of(low, high),
+        }
+    }
+}
 
 // Whether the words are a list of calls, with room for the answers.
 pub(super) fn accepted(calls: &[u32], room: usize) -> bool
     ensures { result ≡ accepted calls.now room }
 {
-    if calls.len() % CALL_WORDS != 0 {
-        return false;
-    }
-    let count = calls.len() / CALL_WORDS;
-    if room < ANSWER_WORDS * count {
-        return false;
-    }
-    known_kinds(calls, count)
+    let (calls, rest) = calls.as_chunks::<CALL_WORDS>();
+    rest.is_empty() & (ANSWER_WORDS * calls.len() <= room) && known_kinds(calls)
 }
 
-// Whether each of the first calls has a known kind.
-fn known_kinds(calls: &[u32], count: usize) -> bool
-    requires { call_words * count ≤ length calls.now }
-    ensures { result ≡ all_to count (λ (n : ℕ). known_kind (kind_of (words_of calls.now n))) }
+// Whether each call has a known kind.
+fn known_kinds(calls: &[[u32; CALL_WORDS]]) -> bool
+    ensures { result ≡ all_to (length calls.now) (λ (n : ℕ). known_kind (kind_of (get_or calls.now n []))) }
 {
-    for n in 0..count {
-        if !known_kind(calls[CALL_WORDS * n]) {
-            return false;
-        }
-    }
-    true
+    calls.iter().all(|words| known_kind(words[0]))
 }
 
 // Whether a kind is one of the six.
 fn known_kind(kind: u32) -> bool
     ensures { result ≡ known_kind kind }
 {
-    (encoding::TRADE <= kind) & (kind <= encoding::LOCK)
+    CallKind::try_from(kind).is_ok()
 }
 
 // The kW of a call, from its low and its high word.
-pub(super) fn kw_of(low: u32, high: u32) -> u64
+fn kw_of(low: u32, high: u32) -> u64
     ensures { result ≡ kw_of low high }
 {
     (low as u64) + 4294967296 * (high as u64)
@@ -55,8 +72,5 @@ pub(super) fn lent_end(start: usize, words: usize) -> usize
     requires { start ≤ words }
     ensures { result ≡ min (start + grants_words) words }
 {
-    if words - start < GRANTS_WORDS {
-        return words;
-    }
-    start + GRANTS_WORDS
+    start + (words - start).min(GRANTS_WORDS)
 }

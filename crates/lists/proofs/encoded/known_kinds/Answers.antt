@@ -1,24 +1,13 @@
-use Rattle.std.proofs.Common.{ap, not}
-use Rattle.base.proofs.Prelude.{◌≡◌, sym, arith, rules}
-use borrow.Author.Tests.{not-true, not-false}
-use Rattle.base.proofs.SumLaws.{all_to-zero}
-use Rattle.lists.proofs.EncodedLaws.{kind-passes, kind-fails}
+-- `known_kinds` meets its contract: the test of every call is one of every place.
+use Rattle.base.proofs.Prelude.{ℕ, List, ◌∙◌, rules, at}
+use Rattle.std.proofs.lemmas.Iterator.{YieldsList-from_slice}
+use Rattle.std.proofs.lemmas.Iterator.Search.{all_from_yields_List}
+use Rattle.lists.specs.Encoded.{known_kind}
+use Rattle.lists.proofs.EncodedLaws.{every-call}
 use Rattle.lists.proofs.encoded.known_kinds.Goals as goal
-
-pub loop-n-init : goal.loop-n-init
-loop-n-init c = search (rules, all_to-zero)
-
-pub returns-then-not-known_kind : goal.returns-then-not-known_kind
-returns-then-not-known_kind c =
-    kind-fails c.args.calls.now c.loop-n.n _ c.known_kind.ensures c.args.count c.loop-n-test.true (not-true _ (ap not c.if-not-known_kind.true))
-
-pub loop-n-preserved : goal.loop-n-preserved
-loop-n-preserved c = (
-  search rules,
-  kind-passes c.args.calls.now c.loop-n.n _ c.known_kind.ensures (not-false _ (ap not c.if-not-known_kind.false)) c.loop-n.invariant.1,
-)
 
 pub returns : goal.returns
 returns c =
-    let end : c.loop-n.n ≡ c.args.count = omega arith in
-    sym (rw end at c.loop-n.invariant.1)
+    all_from_yields_List (λ (words : List ℕ). known_kind (at words 0)) _ _ c.all.result c.all.ensures.ran
+    (YieldsList-from_slice c.args.calls.now cc) (λ x b q k. search rules)
+    ∙ every-call c.args.calls.now

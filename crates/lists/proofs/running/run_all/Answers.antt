@@ -1,5 +1,6 @@
-use Rattle.base.proofs.Prelude.{rules}
-use Rattle.lists.proofs.RunLaws.{words_are, running_none, running-next, running-asks, running-all}
+use Rattle.base.proofs.Prelude.{arith, rules}
+use Rattle.lists.proofs.EncodedLaws.{words-at}
+use Rattle.lists.proofs.RunLaws.{running_none, running-next, running-asks}
 use Rattle.lists.proofs.running.run_all.Goals as goal
 
 pub loop-n-init : goal.loop-n-init
@@ -8,24 +9,14 @@ loop-n-init c =
 
 pub run_call-start-requires : goal.run_call-start-requires
 run_call-start-requires c =
+    let e = c.as_chunks.ensures in
     running-asks c.args.calls.now c.args.state.now c.args.grants.now c.args.answers.now
-    c.loop-n.invariant c.loop-n-test.true c.requires
+    c.loop-n.invariant (omega (arith, c.loop-n-test.true, e.front_len)) c.requires (words-at c.args.calls.now _ e.front e.front_len c.loop-n.n c.loop-n-test.true)
 
 pub loop-n-preserved : goal.loop-n-preserved
 loop-n-preserved c =
+    let e = c.as_chunks.ensures in
     running-next c.args.calls.now c.args.state.now c.args.grants.now c.args.answers.now
-    c.loop-n.invariant _ (words_are c.args.calls.now c.loop-n.n) c.run_call-start.result _ _ _ c.loop-n-test.true c.run_call-start.ensures
+    c.loop-n.invariant _ (words-at c.args.calls.now _ e.front e.front_len c.loop-n.n c.loop-n-test.true) c.run_call-start.result _ _ _
+    (omega (arith, c.loop-n-test.true, e.front_len)) c.run_call-start.ensures
     (search rules) (search rules) (search rules)
-
-pub returns : goal.returns
-returns c =
-    running-all c.args.calls.now c.args.state.now c.args.grants.now c.args.answers.now c.loop-n.invariant c.loop-n-test.false
-
-pub shape_of-state : goal.shape_of-state
-shape_of-state c = c.loop-n.invariant.state-size
-
-pub shape_of-grants : goal.shape_of-grants
-shape_of-grants c = c.loop-n.invariant.grants-size
-
-pub shape_of-answers : goal.shape_of-answers
-shape_of-answers c = c.loop-n.invariant.answers-size

@@ -4,4 +4,4 @@ use Rattle.lists.proofs.running.run_all.Given as goal
 
 abbrev pub invariant-loop-n : goal.invariant-loop-n
 invariant-loop-n l =
-    Running l.calls l.initial.state l.initial.grants l.initial.answers l.n l.start l.state l.grants l.answers
+    Running l.fn.calls l.initial.state l.initial.grants l.initial.answers l.n l.start l.state l.grants l.answers
