@@ -40,6 +40,9 @@ none_more calls first n none other m a b =
 pub one-closes : (calls : List ℕ) (first n : ℕ) → NoneCloses calls first n → OneClosing calls first (n + 1)
 one-closes calls first n none m a b = none m a (omega arith)
 
+pub never-closes : (calls : List ℕ) (first n last : ℕ) → last ≤ n → NoneCloses calls first n → OneClosing calls first last
+never-closes calls first n last past none m a b = none m a (omega arith)
+
 -- calls that the library's function says it ran
 pub was-run : (calls s answers : List ℕ) {t g a : List ℕ} (ran : Bool) →
     (ran ≡ (run calls s zeros answers).done)

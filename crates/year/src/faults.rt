@@ -1,5 +1,6 @@
 // What kept a year from being run and printed, and the line of it on standard error.
 use super::{JOURNAL, NEXT_SHEET, SHEET, files};
+use base::refusals::Refusal;
 use input::{fail, say};
 use journal::Unreadable;
 use std::io::Error;
@@ -25,8 +26,8 @@ pub(super) enum Failure {
     NotRun,
     // Standard output can't be written.
     Output(Error),
-    // Next year's sheet could not be made: the number of the refusal.
-    NotCarried(u32),
+    // Next year's sheet could not be made.
+    NotCarried(Refusal),
 }
 
 impl Failure {
@@ -56,7 +57,8 @@ impl Failure {
             }
             Failure::NotCarried(refusal) => {
                 files::print_name(env, stderr, NEXT_SHEET);
-                let _ = println!(stderr; ": not written, carry is refused with number {refusal}");
+                let number = refusal.number();
+                let _ = println!(stderr; ": not written, carry is refused with number {number}");
             }
             Failure::Output(error) => fail(stderr, b"standard output", error),
             Failure::Refused | Failure::NotRun => {}

@@ -8,14 +8,12 @@ mod next;
 mod output;
 mod running;
 
-ghost use Rattle.std.specs.Prelude.{◌≤◌, IfOk};
-ghost use Rattle.journal.specs.Sizes.{most_calls};
-
 use arrayvec::ArrayVec;
 use base::limits::{MOST_SHEET_BYTES, STATE_WORDS};
 use faults::Failure;
 use input::has_argument;
 use journal::sizes::{ANSWERS_WORDS, CALLS_WORDS, MOST_JOURNAL_BYTES};
+use running::Calls;
 use std::rt::{Env, Files};
 use year_text::TEXT_BYTES;
 
@@ -47,90 +45,74 @@ fn run_files<R: Env + Files + Print>(
     rt: &R,
     sheet: &mut [u8; SHEET_ROOM],
     text: &mut [u8; JOURNAL_ROOM],
-    calls: &mut [u32; CALLS_WORDS],
+    words: &mut [u32; CALLS_WORDS],
 ) -> Result<(), Failure> {
     if !has_argument(rt, JOURNAL) || has_argument(rt, NEXT_SHEET + 1) {
         return Err(Failure::Usage);
     }
-    let end = files::read_argument(rt, SHEET, sheet)?;
-    let count = read_calls(rt, text, calls)?;
-    if SHEET_ROOM <= end {
+    let sheet = files::read_argument(rt, SHEET, sheet)?;
+    let calls = read_calls(rt, text, words)?;
+    if MOST_SHEET_BYTES < sheet.len() {
         return Err(Failure::TooLongSheet);
     }
-    let bytes: &[u8] = sheet;
-    run_list(rt, &bytes[..end], calls, count)
+    run_list(rt, sheet, calls)
 }
 
-// Reads the calls of the journal and answers how many there are.
-fn read_calls<R: Env + Files>(
+// Reads the calls of the journal.
+fn read_calls<'a, R: Env + Files>(
     rt: &R,
     text: &mut [u8; JOURNAL_ROOM],
-    calls: &mut [u32; CALLS_WORDS],
-) -> Result<usize, Failure>
-    ensures { IfOk result (λ count. count ≤ most_calls) }
-{
-    let end = files::read_argument(rt, JOURNAL, text)?;
-    if JOURNAL_ROOM <= end {
+    words: &'a mut [u32; CALLS_WORDS],
+) -> Result<Calls<'a>, Failure> {
+    let text = files::read_argument(rt, JOURNAL, text)?;
+    if MOST_JOURNAL_BYTES < text.len() {
         return Err(Failure::TooLongJournal);
     }
-    let bytes: &[u8] = text;
-    match journal::read_journal(&bytes[..end], calls) {
-        Ok(count) => Ok(count),
+    match journal::read_journal(text, words) {
+        Ok(count) => Ok(Calls { words, count }),
         Err(unreadable) => Err(Failure::Journal(unreadable)),
     }
 }
 
-// Runs the first `count` calls on the sheet and, where an argument names it, writes next year's sheet.
-fn run_list<R: Env + Files + Print>(
-    rt: &R,
-    sheet: &[u8],
-    calls: &[u32; CALLS_WORDS],
-    count: usize,
-) -> Result<(), Failure>
-    requires { count ≤ most_calls }
-{
+// Runs the calls on the sheet and, where an argument names it, writes next year's sheet.
+fn run_list<R: Env + Files + Print>(rt: &R, sheet: &[u8], calls: Calls<'_>) -> Result<(), Failure> {
     let mut state = [0u32; STATE_WORDS];
     let mut answers = [0u64; ANSWERS_WORDS];
-    print_year(rt, sheet, calls, count, &mut state, &mut answers)?;
+    print_year(rt, sheet, calls, &mut state, &mut answers)?;
     if has_argument(rt, NEXT_SHEET) {
         next::write_next(rt, sheet, &state)?;
     }
     Ok(())
 }
 
-// Opens the sheet, runs the first `count` calls and prints the year, or the refusal of the sheet.
+// Opens the sheet, runs the calls and prints the year, or the refusal of the sheet.
 fn print_year(
     stdout: &impl Print,
     sheet: &[u8],
-    calls: &[u32; CALLS_WORDS],
-    count: usize,
+    calls: Calls<'_>,
     state: &mut [u32; STATE_WORDS],
     answers: &mut [u64; ANSWERS_WORDS],
-) -> Result<(), Failure>
-    requires { count ≤ most_calls }
-{
+) -> Result<(), Failure> {
     let mut text = ArrayVec::new();
-    let opened = opening::open(sheet, state);
-    if opened.refusal != 0 {
-        year_text::answers_text(&[opened.refusal as u64, 0, 0], &mut text);
+    if let Err(refusal) = opening::open(sheet, state) {
+        year_text::answers_text(&[u64::from(refusal.number()), 0, 0], &mut text);
         output::write(stdout, text.as_slice())?;
         return Err(Failure::Refused);
     }
-    running::run_all(stdout, calls, count, state, answers, &mut text)?;
-    print_figures(stdout, state, calls, answers, count, &mut text)
+    calls.run_all(stdout, state, answers, &mut text)?;
+    print_figures(stdout, state, calls, answers, &mut text)
 }
 
 // Prints what a control room asks for of every intertie and every holder.
 fn print_figures(
     stdout: &impl Print,
     state: &[u32; STATE_WORDS],
-    calls: &[u32; CALLS_WORDS],
+    calls: Calls<'_>,
     answers: &[u64; ANSWERS_WORDS],
-    count: usize,
     text: &mut ArrayVec<u8, TEXT_BYTES>,
 ) -> Result<(), Failure> {
     year_text::interties_text(state, text);
     output::write(stdout, text.as_slice())?;
-    year_text::holders_text(state, calls, answers, count, text);
+    year_text::holders_text(state, calls.words, answers, calls.count, text);
     output::write(stdout, text.as_slice())
 }

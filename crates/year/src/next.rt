@@ -1,5 +1,5 @@
 // Next year's sheet, written by carry to the file that the third argument names.
-ghost use Rattle.std.specs.Prelude.{◌+◌, ◌*◌, ◌≤◌, ◌≡◌, ltb, length};
+ghost use Rattle.std.specs.Prelude.{◌+◌, ◌*◌, ◌≡◌, ltb, length, take};
 ghost use Rattle.base.specs.Choice.{pick};
 ghost use Rattle.base.specs.Limits.{sheet_header_bytes, record_bytes};
 ghost use Rattle.sheet_records.specs.Sheet.{count};
@@ -23,30 +23,25 @@ pub(super) fn write_next<R: Env + Files>(
     state: &[u32; STATE_WORDS],
 ) -> Result<(), Failure> {
     let mut next = [0u8; MOST_SHEET_BYTES];
-    if let Err(refusal) = carrying::carry(sheet, state, &mut next) {
-        return Err(Failure::NotCarried(refusal.number()));
-    }
-    let count = io::count(sheet_length(&next) as isize, &next);
-    write_argument(rt, &next[..count])
+    carrying::carry(sheet, state, &mut next).map_err(|refusal| Failure::NotCarried(refusal))?;
+    write_argument(rt, sheet_in(&next))
 }
 
-// The length of a sheet, 12 + 8·K.
-fn sheet_length(sheet: &[u8]) -> usize
-    ensures { let s = sheet.now in
-        (result ≡ sheet_header_bytes + record_bytes * pick (ltb (length s) sheet_header_bytes) 0 (count s)) × (result ≤ 34359738380) }
+// The sheet that bytes begin with: its 12 + 8·K bytes, or as many of them as there are.
+#[tactic(auto, using(lists::proofs::EncodedLaws::take_most))]
+fn sheet_in(bytes: &[u8]) -> &[u8]
+    ensures { let b = bytes.now in
+        result.now ≡ take (sheet_header_bytes + record_bytes * pick (ltb (length b) sheet_header_bytes) 0 (count b)) b }
 {
-    SHEET_HEADER_BYTES + RECORD_BYTES * (words::record_count(sheet) as usize)
+    let length = SHEET_HEADER_BYTES + RECORD_BYTES * (words::record_count(bytes) as usize);
+    &bytes[..length.min(bytes.len())]
 }
 
 // Writes next year's sheet to the file that the third argument names.
 fn write_argument<R: Env + Files>(rt: &R, sheet: &[u8]) -> Result<(), Failure> {
     let mut room = io::buffer();
-    match input::argument(rt, NEXT_SHEET, &mut room) {
-        Ok(name) => {
-            write_file(rt, name, sheet).map_err(|error| Failure::File(NEXT_SHEET, error))
-        }
-        Err(error) => Err(Failure::Name(error)),
-    }
+    let name = input::argument(rt, NEXT_SHEET, &mut room).map_err(|error| Failure::Name(error))?;
+    write_file(rt, name, sheet).map_err(|error| Failure::File(NEXT_SHEET, error))
 }
 
 // Writes a file of that name, over the one that there is.

@@ -3,6 +3,6 @@ use Rattle.base.proofs.Prelude.{sym, ◌∙◌, rules}
 use Rattle.year.proofs.JournalLaws.{calls-few}
 use Rattle.year.proofs.read_calls.Goals as goal
 
-pub returns-in-Ok : goal.returns-in-Ok
-returns-in-Ok g c =
-    calls-few _ c.args.calls.now c.in-Ok.count (search rules) (sym c.read_journal.ensures.0 ∙ c.in-Ok.is)
+pub invariant_of-result : goal.invariant_of-result
+invariant_of-result g c =
+    record { few = calls-few _ c.args.words.now c.in-Ok.count (search rules) (sym c.read_journal.ensures.0 ∙ c.in-Ok.is) }
