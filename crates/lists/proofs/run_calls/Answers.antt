@@ -1,18 +1,9 @@
 -- `run_calls` meets its contract: the words are tested, and all calls are run.
 use Rattle.std.proofs.Common.{ap, not}
 use Rattle.base.proofs.Prelude.{sym, ◌∙◌}
-use borrow.Author.Tests.{not-true, not-false}
-use Rattle.lists.proofs.RunLaws.{run_none, run-whole}
+use borrow.Author.Tests.{not-false}
+use Rattle.lists.proofs.RunLaws.{run-whole}
 use Rattle.lists.proofs.run_calls.Goals as goal
-
-pub returns-then-not-accepted : goal.returns-then-not-accepted
-returns-then-not-accepted c =
-    run_none c.args.calls.now c.args.state.now c.args.grants.now c.args.answers.now
-    (sym c.accepted.ensures ∙ not-true _ (ap not c.if-not-accepted.true))
-
-pub run_all-requires : goal.run_all-requires
-run_all-requires c =
-    sym c.accepted.ensures ∙ not-false _ (ap not c.if-not-accepted.false)
 
 pub returns : goal.returns
 returns c =
