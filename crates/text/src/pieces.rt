@@ -35,6 +35,7 @@ pub struct Pieces<'a> {
 }
 
 // All pieces of a text, one more than it has separators.
+#[tactic(auto, using(crate::proofs::PieceLaws::left_all))]
 pub fn split(text: &[u8], separator: u8) -> Pieces<'_>
     ensures { pieces_left result ≡ fields separator text.now }
 {

@@ -1,7 +1,7 @@
 -- `read_number` meets its contract: empty, no digits, or digits.
 use Rattle.std.proofs.Common.{ap, not}
 use Rattle.base.proofs.Prelude.{sym, ◌∙◌, rules}
-use borrow.Author.Tests.{not-true, not-false}
+use borrow.Author.Tests.{not-true}
 use Rattle.text.proofs.ReadLaws.{number-empty, number-bad}
 use Rattle.text.proofs.reading.read_number.Goals as goal
 
@@ -11,6 +11,3 @@ returns-then-not-all_digits c =
 
 pub returns-then-is_empty : goal.returns-then-is_empty
 returns-then-is_empty c = search (rules, number-empty)
-
-pub digits_value-requires : goal.digits_value-requires
-digits_value-requires c = (search rules, sym c.all_digits.ensures ∙ not-false _ (ap not c.if-not-all_digits.false))
