@@ -4,7 +4,6 @@
 
 use base::limits::MOST_SHEET_BYTES;
 use input::{fail, say};
-use sheet_table::TABLE_BYTES;
 use std::io::Read;
 use std::rt::{Env, Files};
 
@@ -87,9 +86,8 @@ fn print_file<R: Files + Print>(rt: &R, stderr: &impl Print, name: &[u8]) {
 
 // Prints the text of a sheet.
 fn print_sheet(stdout: &impl Print, stderr: &impl Print, name: &[u8], sheet: &[u8]) {
-    let mut text = [0u8; TABLE_BYTES];
-    match sheet_table::to_table(sheet, &mut text) {
-        Some(count) => write_out(stdout, stderr, &text[..count]),
+    match sheet_table::to_table(sheet) {
+        Some(text) => write_out(stdout, stderr, text.as_slice()),
         None => {
             say(stderr, name);
             say(stderr, b": not a sheet, refused with number 1\n");

@@ -18,6 +18,10 @@ use Rattle.sheet_records.proofs.BytesLaws.{sheet-length, written-whole}
 use Rattle.sheet_table.specs.Fields.{comma, sizes_in}
 use Rattle.sheet_table.specs.Lines.{bare, lines_of, sizes_on, entries_of, first_fields, later_lines, sheet_with, sheet_of, length_of, converted, written_by, converted_into}
 use Rattle.sheet_table.specs.Workers.Steps.{Put, entries_at, read_into}
+use Rattle.std.specs.Result.{IsErrAnd}
+use Rattle.std.specs.Prelude.{IfOk}
+use Rattle.io.specs.Counts.{IsPrefixLen}
+use Rattle.sheet_table.specs.declared.faults.Unreadable.{Unreadable}
 use Rattle.sheet_table.specs.declared.faults.Unreadable.{Unreadable}
 use Rattle.sheet_table.specs.declared.fields.Sizes.{Sizes}
 use Rattle.sheet_table.proofs.ReadingLaws.{keys-of, kws-of}
@@ -87,3 +91,9 @@ module _ (text first : List ℕ) (past : List (List ℕ)) (is : first ≡ get_or
         let size : count ≡ length bytes = omega (arith, put.0.0) in
         let within : count ≤ length m = omega (arith, ap length put.0.1, length-written 0 bytes l, put.1) in
         (ap Ok size ∙ sym (ap length_of whole), put.0.1 ∙ sym (ap (λ r. written_by r l) whole), (within, sym (length-take-le count m within)))
+
+-- a fault that `?` hands on is what converting answers, and leaves the memory
+pub faulty-answer : (text l : List ℕ) (r : Result ℕ Unreadable) (e : Unreadable) → IsErrAnd r (λ x. x ≡ e) → (Err e ≡ converted text) × (l ≡ converted_into text l)
+    → (r ≡ converted text) × (l ≡ converted_into text l) × IfOk r (λ count. IsPrefixLen count l)
+faulty-answer text l (Ok x) e same done = absurd same
+faulty-answer text l (Err x) e same done = (ap Err same ∙ done.0, done.1, tt)

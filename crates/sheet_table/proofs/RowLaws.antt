@@ -1,24 +1,23 @@
 -- How long the lines of a table are, and what writing them leaves.
-use Prim.Native.Nat.{ℕ, zero, suc, ◌+◌, ◌-◌, ◌*◌, ◌/◌, ◌%◌, ◌^◌, ◌≤◌, ◌<◌}
-use mathlib.Core.Path.{◌≡◌, refl, sym, ap, subst, ◌∙◌}
+use Prim.Native.Nat.{ℕ, zero, suc, ◌+◌, ◌*◌, ◌/◌, ◌%◌, ◌^◌, ◌≤◌, ◌<◌}
+use mathlib.Core.Path.{◌≡◌, refl, sym, ap, ◌∙◌}
 use mathlib.Core.Bool.{false}
 use mathlib.Core.Logic.{◌≢◌}
-use mathlib.Core.List.{List, [], ◌∷◌, ◌++◌, append_assoc}
+use mathlib.Core.List.{List, [], ◌∷◌, ◌++◌, append_assoc, append-nil}
 use native.Mathlib.Nat.{pow-suc}
 use native.Mathlib.Numerals.{add-one}
 use native.Mathlib.Omega.{arith}
 use lib.Dec.{ltb, eqb}
-use lib.ListN.{length, length-append, take, drop}
-use lib.Seq.{drop-drop}
+use lib.ListN.{length, length-append, take}
 use borrow.Author.Tests.{eq-eqb, ne_eqb, ltb-false}
-use borrow.Rule.Slice.PartMut.{put_mid}
 use Rattle.base.specs.Words.{at}
 use Rattle.base.proofs.ChoiceLaws.{pick-by}
 use Rattle.text.specs.Decimal.{digit, decimal, decimal_to}
 use Rattle.text.specs.Lines.{line_end, figure, figures_of, line_of, bounded_line}
 use Rattle.text.proofs.DecimalLaws.{spelled_is}
 use Rattle.text.proofs.LineLaws.{line-stands}
-use Rattle.text.proofs.WrittenLaws.{written_is, written_none, put_then}
+use Rattle.text.specs.Written.{appended}
+use Rattle.text.proofs.PutLaws.{appended-fits}
 use Rattle.io.specs.Digits.{last_digits, IsDigitCount}
 use Rattle.sheet_keys.specs.Key.{kind_of, holder_of, intertie_of, rank_of, years_of}
 use Rattle.sheet_records.specs.Sheet.{count, key_at, kw_at}
@@ -27,7 +26,6 @@ use Rattle.sheet_records.proofs.RefusalLaws.{whole as whole-sheet}
 use Rattle.sheet_records.proofs.ReadingLaws.{word_below}
 use Rattle.sheet_table.specs.Kinds.{name_of}
 use Rattle.sheet_table.specs.Fields.{comma}
-use Rattle.sheet_table.specs.Workers.Steps.{Put}
 use Rattle.sheet_table.specs.Table.{label_of, row_of, rows_of}
 
 -- a number of so many digits
@@ -130,40 +128,17 @@ rows_few sheet (suc k) bytes =
       row-few (key_at sheet k) (kw_at sheet k) (word_below sheet _ bytes) (word_below sheet _ bytes),
     )
 
--- a line copied into its part of the table
-pub line-copied : (label : List ℕ) (separator : ℕ) (numbers : List ℕ) (place n : ℕ) (line part l : List ℕ) → length label ≤ 20 → length numbers ≤ 8 →
-    line ≡ bounded_line label separator numbers → place + length (line_of label separator numbers) ≤ length l → n ≡ length line → part ≡ line →
-    Put place (line_of label separator numbers) (place + n) l (put_mid place ((place + n) - place) l part)
-line-copied label separator numbers place n line part l short few is fits size copied =
-    let t : List ℕ = line_of label separator numbers in
-    let same : line ≡ t = is ∙ line-stands label separator numbers short few in
-    let many : (place + n) - place ≡ length t = omega (arith, size, ap length same) in
-    let rest : drop ((place + n) - place) (drop place l) ≡ drop (place + length t) l =
-    ap (λ (k : ℕ). drop k (drop place l)) many ∙ drop-drop (length t) place l in (
-      omega (arith, size, ap length same),
-      ap (λ (u : List ℕ). take place l ++ (u ++ drop ((place + n) - place) (drop place l))) (copied ∙ same)
-          ∙ ap (λ (u : List ℕ). take place l ++ (t ++ u)) rest
-          ∙ sym (append_assoc (take place l) t (drop (place + length t) l))
-          ∙ sym (written_is place t l fits),
-    )
-
 -- the digits of a label
 pub label-digits : (n count : ℕ) (text : List ℕ) → n ≤ 4_294_967_295 → IsDigitCount 10 1 n count → take count text ≡ last_digits 10 count n → take count text ≡ decimal n
 label-digits n count text small fewest spelled = spelled_is n count (take count text) (omega arith) fewest spelled
 
 -- the first line, with the digits of I as its label
-module _ (I H : ℕ) (label : List ℕ) (same : label ≡ decimal I) (i : I ≤ 4_294_967_295) (h : H ≤ 4_294_967_295) where
-  whole : line_of label comma (H ∷ []) ≡ line_of (decimal I) comma (H ∷ [])
-  whole = ap (λ (t : List ℕ). line_of t comma (H ∷ [])) same
-
-  pub sizes-label : length label ≤ 20
-  sizes-label = omega (arith, ap length same, few-digits 19 9 I (omega arith))
-
-  pub sizes-fit : length (line_of label comma (H ∷ [])) ≤ 22
-  sizes-fit = omega (arith, ap length whole, sizes-few I H i h)
-
-  pub sizes-put : (r : ℕ) (l m : List ℕ) → Put 0 (line_of label comma (H ∷ [])) r l m → Put 0 (line_of (decimal I) comma (H ∷ [])) r l m × (r ≤ 22)
-  sizes-put r l m put = (subst (λ (t : List ℕ). Put 0 t r l m) whole put, omega (arith, put.0, sizes-fit))
+pub sizes-put : (I H : ℕ) (label l m : List ℕ) → label ≡ decimal I → I ≤ 4_294_967_295 → m ≡ appended 34838 (bounded_line label comma (H ∷ [])) l
+    → m ≡ appended 34838 (line_of (decimal I) comma (H ∷ [])) l
+sizes-put I H label l m same i put =
+    put
+    ∙ ap (λ (t : List ℕ). appended 34838 t l) (line-stands label comma (H ∷ []) (omega (arith, ap length same, few-digits 19 9 I (omega arith))) (omega arith))
+    ∙ ap (λ (t : List ℕ). appended 34838 (line_of t comma (H ∷ [])) l) same
 
 -- the label of a kind that has a name, and of one that has none
 module _ (kind : ℕ) (name : List ℕ) (is : name ≡ name_of kind) where
@@ -186,33 +161,40 @@ module _ (key kw kind h i r y : ℕ) (label : List ℕ) (k : kind ≡ kind_of ke
   unfolding row_of
   row_is = rw (same, k, eh, ei, er, ey) refl
 
-  pub row-asks : key ≤ 4_294_967_295 → kw ≤ 4_294_967_295 → (place room : ℕ) → place + 34 ≤ room →
-      (length label ≤ 20) × (length (h ∷ i ∷ r ∷ y ∷ kw ∷ []) ≤ 8) × (place + length (line_of label comma (h ∷ i ∷ r ∷ y ∷ kw ∷ [])) ≤ room)
-  row-asks low small place room fits =
-      (omega (arith, ap length same, label-few kind (omega arith)), omega arith, omega (arith, ap length row_is, row-few key kw low small))
+  pub row_put : (l m : List ℕ) → m ≡ appended 34838 (bounded_line label comma (h ∷ i ∷ r ∷ y ∷ kw ∷ [])) l → m ≡ appended 34838 (row_of key kw) l
+  row_put l m put =
+      put
+      ∙ ap (λ (t : List ℕ). appended 34838 t l)
+      (line-stands label comma (h ∷ i ∷ r ∷ y ∷ kw ∷ []) (omega (arith, ap length same, label-few kind (omega arith))) (omega arith) ∙ row_is)
 
-  pub row_put : (place next : ℕ) (l m : List ℕ) → Put place (line_of label comma (h ∷ i ∷ r ∷ y ∷ kw ∷ [])) next l m → Put place (row_of key kw) next l m
-  row_put place next l m put = subst (λ (t : List ℕ). Put place t next l m) row_is put
-
--- a loop that writes rows of a sheet: the room it needs, before the first turn, a turn, and after the last
-pub rows-room : (sheet : List ℕ) (k place next : ℕ) (l m : List ℕ) → ((i : ℕ) → at sheet i < 256) →
-    bad_length sheet ≡ false → k ≤ count sheet → place ≤ 22 →
-    Put place (rows_of sheet k) next l m → (next ≤ 34838) × (k < count sheet → next + 34 ≤ 34838)
-rows-room sheet k place next l m bytes passes inside start put =
-    let few = (whole-sheet sheet (count sheet) passes refl).few in
-    let size = rows_few sheet k bytes in
-    (omega (arith, put.0, few), λ more. omega (arith, put.0, few))
-
-pub rows_none : (sheet : List ℕ) (k place : ℕ) (l : List ℕ) → k ≡ 0 → Put place (rows_of sheet k) place l l
+-- a loop that puts the rows of a sheet after the first line: before the first turn, a turn, and after the last
+pub rows_none : (sheet : List ℕ) (k : ℕ) (l : List ℕ) → k ≡ 0 → l ≡ l ++ rows_of sheet k
 unfolding rows_of
-rows_none sheet k place l none = rw none (omega arith, sym (written_none place l))
+rows_none sheet k l none = rw none (sym (append-nil l))
 
-pub rows-turn : (sheet : List ℕ) (k j place next after key kw : ℕ) (l m n : List ℕ) → key ≡ key_at sheet k → kw ≡ kw_at sheet k → j ≡ k + 1 →
-    Put place (rows_of sheet k) next l m → Put next (row_of key kw) after m n → Put place (rows_of sheet j) after l n
+pub rows-turn : (sheet : List ℕ) (k j key kw : ℕ) (start l m : List ℕ) → ((i : ℕ) → at sheet i < 256) → bad_length sheet ≡ false → k < count sheet →
+    key ≡ key_at sheet k → kw ≡ kw_at sheet k → j ≡ k + 1 → length start ≤ 22 → l ≡ start ++ rows_of sheet k → m ≡ appended 34838 (row_of key kw) l →
+    m ≡ start ++ rows_of sheet j
 unfolding rows_of
-rows-turn sheet k j place next after key kw l m n ek eq ej first second =
-    rw (ej, add-one k, ← ek, ← eq) (put_then place next after (rows_of sheet k) (row_of key kw) l m n first second)
+rows-turn sheet k j key kw start l m bytes passes inside ek eq ej short before put =
+    let row : List ℕ = row_of (key_at sheet k) (kw_at sheet k) in
+    let is : row_of key kw ≡ row = rw (ek, eq) refl in
+    let fits : length l + length row ≤ 34838 =
+    omega (
+      arith,
+      ap length before,
+      length-append start (rows_of sheet k),
+      rows_few sheet k bytes,
+      row-few (key_at sheet k) (kw_at sheet k) (word_below sheet _ bytes) (word_below sheet _ bytes),
+      (whole-sheet sheet (count sheet) passes refl).few,
+    ) in
+    rw (ej, add-one k) (
+    put
+    ∙ ap (λ (t : List ℕ). appended 34838 t l) is
+    ∙ appended-fits 34838 row l fits
+    ∙ ap (λ (t : List ℕ). t ++ row) before
+    ∙ append_assoc start (rows_of sheet k) row
+    )
 
-pub rows_all : (sheet : List ℕ) (k place next : ℕ) (l m : List ℕ) → k ≡ count sheet →
-    Put place (rows_of sheet k) next l m → Put place (rows_of sheet (count sheet)) next l m
-rows_all sheet k place next l m end put = rw end at put
+pub rows_all : (sheet : List ℕ) (k : ℕ) (start l : List ℕ) → k ≡ count sheet → l ≡ start ++ rows_of sheet k → l ≡ start ++ rows_of sheet (count sheet)
+rows_all sheet k start l end put = rw end at put

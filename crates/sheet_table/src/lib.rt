@@ -8,14 +8,15 @@ mod kinds;
 mod lines;
 mod rows;
 
-ghost use Rattle.std.specs.Prelude.{◌≡◌, length, IfOk, IfSome, Some, None};
+ghost use Rattle.std.specs.Prelude.{◌≡◌, IfOk, Some, None};
+ghost use Rattle.std.specs.Option.{option_map};
 ghost use Rattle.io.specs.Counts.{IsPrefixLen};
 ghost use Rattle.base.specs.Choice.{pick};
-ghost use Rattle.text.specs.Written.{written};
 ghost use Rattle.sheet_records.specs.Refusal.{bad_length};
 ghost use Rattle.sheet_table.specs.Lines.{converted, converted_into};
 ghost use Rattle.sheet_table.specs.Table.{table_of};
 
+use arrayvec::ArrayVec;
 use base::limits::MOST_RECORDS;
 pub use base::limits::MOST_SHEET_BYTES;
 pub use faults::{Fault, Unreadable};
@@ -37,16 +38,10 @@ pub fn to_sheet(text: &[u8], sheet: &mut [u8; MOST_SHEET_BYTES]) -> Result<usize
 {
     let mut lines = text::split(text, b'\n');
     let first = lines.next().unwrap_or(&[]);
-    let sizes = match lines::read_first(first) {
-        Ok(sizes) => sizes,
-        Err(unreadable) => return Err(unreadable),
-    };
+    let sizes = lines::read_first(first)?;
     let mut keys = [0u32; MOST_RECORDS];
     let mut kws = [0u32; MOST_RECORDS];
-    let records = match lines::read_lines(lines, &mut keys, &mut kws) {
-        Ok(records) => records,
-        Err(unreadable) => return Err(unreadable),
-    };
+    let records = lines::read_lines(lines, &mut keys, &mut kws)?;
     let count = writing::write_sheet(
         sizes.interties,
         sizes.holders,
@@ -58,18 +53,18 @@ pub fn to_sheet(text: &[u8], sheet: &mut [u8; MOST_SHEET_BYTES]) -> Result<usize
     Ok(count)
 }
 
-// Writes the text of a sheet at the start of `text` and answers its length; nothing, and no length, for bytes
-// that refusal 1 refuses.
-pub fn to_table(sheet: &[u8], text: &mut [u8; TABLE_BYTES]) -> Option<usize>
-    ensures { let table = table_of sheet.now in
-        (result ≡ pick (bad_length sheet.now) None (Some (length table))) × (text.new ≡ written 0 table text.old)
-        × IfSome result (λ count. IsPrefixLen count text.new) }
+// The text of a sheet; none for bytes that refusal 1 refuses.
+pub fn to_table(sheet: &[u8]) -> Option<ArrayVec<u8, TABLE_BYTES>>
+    ensures { let s = sheet.now in
+        option_map (λ table. table.items) result ≡ pick (bad_length s) None (Some (table_of s)) }
 {
     if words::bad_length(sheet) {
         return None;
     }
     let interties = words::intertie_count(sheet);
     let holders = words::holder_count(sheet);
-    let rows_at = rows::put_sizes(interties, holders, text);
-    Some(rows::put_rows(sheet, text, rows_at))
+    let mut table = ArrayVec::new();
+    rows::put_sizes(interties, holders, &mut table);
+    rows::put_rows(sheet, &mut table);
+    Some(table)
 }

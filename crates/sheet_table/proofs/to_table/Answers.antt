@@ -1,23 +1,18 @@
 -- `to_table` meets its contract: the sizes, then the records (`TableLaws`).
 use Rattle.base.proofs.Prelude.{rules}
-use Rattle.sheet_records.specs.Sheet.{interties, holders}
-use Rattle.sheet_table.proofs.TableLaws.{none-tabled, passes, size_is, all-tabled}
+use Rattle.sheet_table.proofs.TableLaws.{none-tabled, passes, first-short, all-tabled}
 use Rattle.sheet_table.proofs.to_table.Goals as goal
 
 pub returns-then-bad_length : goal.returns-then-bad_length
-returns-then-bad_length c = let a = c.args in
-    (let t = none-tabled a.sheet.now _ c.bad_length.ensures _ c.if-bad_length.true in (t.0, t.1, tt))
-
-pub returns : goal.returns
-returns c = let a = c.args in
-    let read = c.if-bad_length.false in
-    let rows = c.put_rows.ensures in
-    all-tabled a.sheet.now _ c.bad_length.ensures read _ _ _ _ _ _ _ (search rules)
-    (size_is a.sheet.now _ c.bad_length.ensures read _ (interties a.sheet.now) c.intertie_count-interties.ensures)
-    (size_is a.sheet.now _ c.bad_length.ensures read _ (holders a.sheet.now) c.holder_count-holders.ensures)
-    c.put_sizes-rows_at.ensures.0
-    rows.0
-    rows.1
+returns-then-bad_length c = none-tabled _ _ c.bad_length.ensures c.if-bad_length.true
 
 pub put_rows-requires : goal.put_rows-requires
-put_rows-requires c = search (rules, passes)
+put_rows-requires c = (
+  passes _ _ c.bad_length.ensures c.if-bad_length.false,
+  first-short _ _ c.bad_length.ensures c.if-bad_length.false _ _ c.intertie_count-interties.ensures c.holder_count-holders.ensures (search rules) (search rules) _ _ c.new-table.ensures c.put_sizes.ensures,
+)
+
+pub returns : goal.returns
+returns c =
+    all-tabled _ _ c.bad_length.ensures c.if-bad_length.false _ _ c.intertie_count-interties.ensures c.holder_count-holders.ensures (search rules) (search rules) _ _ c.new-table.ensures c.put_sizes.ensures
+    _ c.put_rows.ensures
