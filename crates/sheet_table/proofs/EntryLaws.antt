@@ -1,4 +1,5 @@
 -- What the first line and the line of a record say.
+use Rattle.std.specs.Result.{IsErrAnd}
 use Prim.Native.Nat.{ℕ, ◌<◌}
 use mathlib.Core.Path.{◌≡◌, ap, ◌∙◌}
 use mathlib.Core.List.{List, [], ◌∷◌}
@@ -60,3 +61,8 @@ module _ (fs rest : List (List ℕ)) (name : List ℕ) (is : name ≡ get_or fs 
   pub kind-stop : (fault : Fault) → Err fault ≡ within 15 (kind_in name) → Err (flaw 1 fault) ≡ entry_in fs
   unfolding entry_in
   kind-stop fault e = ap after_kind e ∙ ap (λ t. after_kind (within 15 (kind_in t))) is
+
+-- a fault that `?` hands on
+pub handed-fault : {A E : Type 0} (r : Result A E) (e : E) → IsErrAnd r (λ x. x ≡ e) → r ≡ Err e
+handed-fault (Ok x) e same = absurd same
+handed-fault (Err x) e same = ap Err same

@@ -115,13 +115,11 @@ pub(crate) fn read_sizes(line: &[u8]) -> Result<Sizes, Flaw>
 {
     let mut fields = text::split(line, b',');
     let mut sizes = [0u32; 2];
-    match read_numbers(&mut fields, 1, &[MOST_WORD, MOST_WORD], &mut sizes) {
-        Ok(()) => Ok(Sizes {
-            interties: sizes[0],
-            holders: sizes[1],
-        }),
-        Err(flaw) => Err(flaw),
-    }
+    read_numbers(&mut fields, 1, &[MOST_WORD, MOST_WORD], &mut sizes)?;
+    Ok(Sizes {
+        interties: sizes[0],
+        holders: sizes[1],
+    })
 }
 
 // The line of a record.
@@ -149,11 +147,9 @@ fn read_entry_of(kind: u32, fields: &mut Pieces) -> Result<Entry, Flaw>
         MOST_WORD,
     ];
     let mut values = [0u32; FIELDS];
-    match read_numbers(fields, 2, &mosts, &mut values) {
-        Ok(()) => Ok(Entry {
-            key: pack(kind, values[0], values[1], values[2], values[3]),
-            kw: values[4],
-        }),
-        Err(flaw) => Err(flaw),
-    }
+    read_numbers(fields, 2, &mosts, &mut values)?;
+    Ok(Entry {
+        key: pack(kind, values[0], values[1], values[2], values[3]),
+        kw: values[4],
+    })
 }

@@ -19,7 +19,7 @@ fn name(kind: Kind) -> &'static [u8]
     }
 }
 
-// The name of the kind of a number; empty for one without a name.
+// The name of the kind of a number; empty for one without a name, since a key may hold a kind that has none.
 pub(crate) fn name_of(kind: u32) -> &'static [u8]
     ensures { result.now ≡ name_of kind }
 {

@@ -66,7 +66,8 @@ fn read_line(line: &[u8], number: usize, count: usize) -> Result<Option<Entry>, 
     }
 }
 
-// Reads the lines past the first into two tables, up to the first fault, and answers how many records there are.
+// Reads the lines past the first into two tables, up to the first fault, and answers how many records there are. The tables
+// are two, as `write_sheet` takes them: one of records would have to be split again.
 pub(crate) fn read_lines(
     lines: Pieces,
     keys: &mut [u32; MOST_RECORDS],
