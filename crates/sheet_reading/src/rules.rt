@@ -84,6 +84,7 @@ fn rule_of(kind: u32) -> Rule
 }
 
 // A field that the kind names is in its range; one that it doesn't name is 0.
+#[tactic(auto, using(crate::proofs::RuleLaws::one_of))]
 fn field_stands(named: bool, in_range: bool, field: u32) -> bool
     ensures { result ≡ pick named in_range (eqb field 0) }
 {

@@ -7,6 +7,3 @@ use Rattle.sheet_reading.proofs.refusal.limit_holds.Goals as goal
 pub overflow_add-result-2 : goal.overflow_add-result-2
 overflow_add-result-2 c = let a = c.args in
     omega (arith, c.requires.2 (outside_slot a.intertie), existing-bound a.kw.now a.holders a.intertie c.requires.0 c.requires.2)
-
-pub returns : goal.returns
-returns c = cc
