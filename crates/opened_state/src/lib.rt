@@ -19,6 +19,7 @@ use state::layout;
 
 // What the steps give from a sheet: of each holder its Step 5 share, its Step 7 total and what it holds, of each pair P and N,
 // and of each intertie what stays unassigned.
+#[derive(Drop)]
 pub struct Figures {
     pub shares: [u64; MOST_HOLDERS],
     pub totals: [u64; MOST_HOLDERS],

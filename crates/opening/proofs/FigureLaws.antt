@@ -1,10 +1,10 @@
 -- The rows of Steps 5 to 7, as the code finds them.
 use Prim.Native.Nat.{ℕ, ◌+◌, ◌-◌, ◌*◌, ◌%◌, ◌^◌, ◌≤◌, ◌<◌}
 use mathlib.Core.Path.{◌≡◌, sym, ap, ◌∙◌}
-use mathlib.Core.List.{List}
+use mathlib.Core.List.{List, ◌++◌}
 use native.Mathlib.Nat.{mod-eq_of_lt}
 use native.Mathlib.Omega.{arith}
-use lib.ListN.{length}
+use lib.ListN.{length, get_or-append}
 use borrow.Rule.Slice.PartMut.{mid_of}
 use Rattle.base.specs.Sums.{sum_to}
 use Rattle.base.specs.Words.{at, tab}
@@ -18,7 +18,7 @@ use Rattle.step_5.specs.Workers.Fit.{Accepted}
 use Rattle.step_5.proofs.OutcomeLaws.{outcome-accepted, shares_whole}
 use Rattle.step_5.proofs.Promise.{promise}
 use Rattle.steps_2_to_4.proofs.ClaimLaws.{mid-tab}
-use Rattle.opening.specs.Workers.Figures.{KwTables, held_from, HeldGiven, HeldTaken}
+use Rattle.opening.specs.Workers.Figures.{held_from, HeldGiven, HeldTaken}
 
 -- the sum of a part of a table
 pub part-sum : (r a e I : ℕ) (l : List ℕ) → r ≡ sum_to (length (mid_of a (e - a) l)) (at (mid_of a (e - a) l)) % 2 ^ 64 →
@@ -29,81 +29,73 @@ part-sum r a e I l is end inside few most =
     is ∙ ap (λ (k : ℕ). k % 2 ^ 64) (sum-part a e I l end inside) ∙ mod-eq_of_lt (omega (arith, small, few)) in
     (same, omega (arith, same, small, few))
 
--- the tables of one holder more
-pub first-holders : (I H h : ℕ) (kw pre_ra new_use : List ℕ) → KwTables I H kw pre_ra new_use → h < H → KwTables I (h + 1) kw pre_ra new_use
-first-holders I H h kw pre_ra new_use k l =
-    record {
-      few = k.few;
-      small = omega (arith, k.small);
-      kw-size = k.kw-size;
-      pre-ra-size = k.pre-ra-size;
-      new-use-size = k.new-use-size;
-      existing-most = λ j i m b. k.existing-most j i (omega arith) b;
-      pre-ra-most = λ j i m b. k.pre-ra-most j i (omega arith) b;
-      new-use-most = λ j i m b. k.new-use-most j i (omega arith) b;
-    }
-
-module _ (total : ℕ) (kw : List ℕ) (I : ℕ) (pre_ra new_use held₀ shares₀ totals₀ : List ℕ) (g : HeldGiven total kw I pre_ra new_use held₀ shares₀ totals₀) where
+module _ (total : ℕ) (kw : List ℕ) (I H : ℕ) (pre_ra new_use : List ℕ) (g : HeldGiven total kw I H pre_ra new_use) (slots : length kw ≡ 12481) where
   abbrev hold : ℕ → ℕ
   hold = held_from I kw pre_ra new_use
 
   -- the load shares
   abbrev load_shares : List ℕ
-  load_shares = tab (length held₀) (λ h. at kw (load_share_slot h))
+  load_shares = tab H (λ h. at kw (load_share_slot h))
 
-  loads-size : length load_shares ≡ length held₀
-  loads-size = length-tab (length held₀) _
+  module _ (held : List ℕ) (n : ℕ) (room : n ≡ H) (e : held ≡ tab n hold) where
+    held-are : held ≡ tab H hold
+    held-are = e ∙ ap (λ k. tab k hold) room
 
-  module _ (held : List ℕ) (e : held ≡ tab (length held₀) hold) where
-    held-size : length held ≡ length held₀
-    held-size = ap length e ∙ length-tab (length held₀) hold
+    held-size : length held ≡ H
+    held-size = ap length held-are ∙ length-tab H hold
 
-    -- those that are lent
-    pub loads-inside : 128 + length held ≤ length kw
-    loads-inside = omega (arith, held-size, g.tables.small, g.tables.kw-size)
-
-    loads-are : mid_of 128 (128 + length held - 128) kw ≡ load_shares
-    loads-are = mid-tab 128 (128 + length held) (length held₀) kw loads-inside (omega (arith, held-size))
-
-    at_held : (h : ℕ) → h < length held₀ → at held h ≡ hold h
-    at_held h l = ap (λ m. at m h) e ∙ at-tab (length held₀) hold h l
+    at_held : (h : ℕ) → h < H → at held h ≡ hold h
+    at_held h l = ap (λ m. at m h) held-are ∙ at-tab H hold h l
 
     held-sum : sum_to (length held) (at held) ≤ total
     held-sum =
-        let same : sum_to (length held) (at held) ≡ sum_to (length held₀) hold = ap (λ n. sum_to n (at held)) held-size ∙ sum_to-same (length held₀) (at held) hold at_held in
+        let same : sum_to (length held) (at held) ≡ sum_to H hold = ap (λ n. sum_to n (at held)) held-size ∙ sum_to-same H (at held) hold at_held in
         omega (arith, g.within)
 
     accepted : Accepted total held load_shares
     accepted =
         record {
-          few = omega (arith, held-size, g.tables.small);
-          paired = loads-size ∙ sym held-size;
+          few = omega (arith, held-size, g.small);
+          paired = length-tab H _ ∙ sym held-size;
           total-kw = omega (arith, g.total-most);
           held-kw = λ h l. omega (arith, held-sum, g.total-most, sum_to-term (length held) (at held) h l);
           load-shares = λ h l.
-              let here : h < length held₀ = omega (arith, held-size) in
-              omega (arith, at-tab (length held₀) (λ h. at kw (load_share_slot h)) h here, g.load-shares h here);
+              let here : h < H = omega (arith, held-size) in
+              omega (arith, at-tab H (λ h. at kw (load_share_slot h)) h here, g.load-shares h here);
         }
 
-    module _ (shares : List ℕ) (s : shares ≡ (step5 total held (mid_of 128 (128 + length held - 128) kw) shares₀).output) where
+    module _ (shares shares₀ : List ℕ) (same : length shares₀ ≡ H) (s : shares ≡ (step5 total held (mid_of 128 (128 + H - 128) kw) shares₀).output) where
       shares-are : shares ≡ step5_shares total held load_shares
       shares-are =
-          let room : length shares₀ ≡ length held = g.shares-room ∙ sym held-size in
-          s ∙ ap (λ l. (step5 total held l shares₀).output) loads-are
-          ∙ ap (λ o. o.output) (outcome-accepted total held load_shares shares₀ accepted (omega arith)) ∙ shares_whole total held load_shares shares₀ room
+          let alike : length shares₀ ≡ length held = same ∙ sym held-size in
+          s ∙ ap (λ l. (step5 total held l shares₀).output) (mid-tab 128 (128 + H) H kw (omega (arith, g.small)) (omega arith))
+          ∙ ap (λ o. o.output) (outcome-accepted total held load_shares shares₀ accepted (omega arith)) ∙ shares_whole total held load_shares shares₀ alike
 
-      pub total-most : (h : ℕ) → h < length totals₀ → at held h + at shares h ≤ 960000000
-      total-most h l =
-          let here : h < length held = omega (arith, held-size, g.totals-room) in
-          let same : at shares h ≡ at (step5_shares total held load_shares) h = ap (λ m. at m h) shares-are in
-          omega (arith, (promise total held load_shares).step7 held-sum h here, g.total-most)
+      shares-size : length shares ≡ H
+      shares-size = ap length shares-are ∙ (promise total held load_shares).size ∙ held-size
 
-      pub totals-within : (length totals₀ ≤ length held) × (length totals₀ ≤ length shares)
-      totals-within =
-          let size : length shares ≡ length held = ap length shares-are ∙ (promise total held load_shares).size in
-          (omega (arith, g.totals-room, held-size), omega (arith, g.totals-room, held-size))
+      pub totals-within : (k : ℕ) → k ≡ H → (k ≤ length held) × (k ≤ length shares) × ((h : ℕ) → h < k → at held h + at shares h ≤ 960000000)
+      totals-within k size = (
+        omega (arith, held-size),
+        omega (arith, shares-size),
+        λ h l.
+            let here : h < length held = omega (arith, held-size) in
+            let share : at shares h ≡ at (step5_shares total held load_shares) h = ap (λ m. at m h) shares-are in
+            omega (arith, (promise total held load_shares).step7 held-sum h here, g.total-most),
+      )
 
-      pub held-taken : (totals : List ℕ) → totals ≡ tab (length totals₀) (λ h. at held h + at shares h) →
-          HeldTaken total kw I (length held₀) pre_ra new_use held shares totals
-      held-taken totals t =
-          record { hold = e; share = shares-are; step7 = t ∙ ap (λ n. tab n (λ h. at held h + at shares h)) g.totals-room }
+      pub held-taken : (totals rest₁ rest₂ rest₃ : List ℕ) (k : ℕ) → k ≡ H → totals ≡ tab k (λ h. at held h + at shares h) →
+          HeldTaken total kw I H pre_ra new_use (held ++ rest₁) (shares ++ rest₂) (totals ++ rest₃)
+      held-taken totals rest₁ rest₂ rest₃ k size t =
+          let first : (h : ℕ) → h < H → at (held ++ rest₁) h ≡ at held h = λ h l. get_or-append held rest₁ 0 h (omega (arith, held-size)) in
+          let second : (h : ℕ) → h < H → at (shares ++ rest₂) h ≡ at shares h = λ h l. get_or-append shares rest₂ 0 h (omega (arith, shares-size)) in
+          record {
+            hold = λ h l. first h l ∙ at_held h l;
+            share = λ h l.
+                second h l ∙ ap (λ m. at m h) shares-are ∙ ap (λ m. at (step5_shares total m load_shares) h) held-are;
+            step7 = λ h l.
+                let sum : length totals ≡ H = ap length t ∙ length-tab k _ ∙ size in
+                get_or-append totals rest₃ 0 h (omega (arith, sum))
+                ∙ ap (λ m. at m h) t ∙ at-tab k (λ h. at held h + at shares h) h (omega arith)
+                ∙ ap (λ x. x + at shares h) (sym (first h l)) ∙ ap (λ x. at (held ++ rest₁) h + x) (sym (second h l));
+          }

@@ -7,13 +7,15 @@ use native.Mathlib.Omega.{arith}
 use Rattle.state_rows.specs.Rows.{fill_row, fill_pairs}
 use Rattle.state_rows.proofs.RowLaws.{fill_row-same, fill_pairs-same}
 use Rattle.steps.specs.Inputs.{Inputs}
-use Rattle.steps.specs.Tables.{of_tables}
+use Rattle.sheet_reading.specs.declared.tables.Tables.{Tables}
 use Rattle.steps.specs.Valid.{Valid}
 use Rattle.steps.specs.Step4a.{pre_ra_granted}
 use Rattle.steps.specs.Step4b.{new_use_granted}
 use Rattle.steps.specs.Step5to7.{held_on, held, step5_share, step7_total, unassigned}
 use Rattle.steps.proofs.BoundLaws.{held-on-most, held-most, share-most, step7-total-most, unassigned-most, limit-parts}
 use Rattle.steps_2_to_4.specs.Workers.Vectors.{Row, Pairs}
+use Rattle.steps_2_to_4.specs.Reserved.{inputs}
+use Rattle.opened_state.specs.declared.Figures.{Figures}
 use Rattle.opened_state.specs.Write.{low, sizes_written, figures_written, reserved_written, stage_written, rows_cleared, pairs_cleared, state_written}
 use Rattle.opening.specs.Opened.{size_words, figure_words, reserved_words, stage_words, cleared_words, opened_state}
 
@@ -30,25 +32,24 @@ low-is : (n m : ℕ) → n ≡ m → m ≤ 960000000 → low n ≡ m
 low-is n m e most = mod-eq_of_lt (omega arith) ∙ e
 
 -- rows and tables that say what the steps give from y
-pub record Given (y : Inputs) (shares totals holds pre_ra new_use left : List ℕ) : Type 0 where
-  pub share : Row y.holders shares (step5_share y)
-  pub total : Row y.holders totals (step7_total y)
-  pub hold : Row y.holders holds (held y)
-  pub granted : Pairs y.holders y.interties pre_ra (pre_ra_granted y)
-  pub kept : Pairs y.holders y.interties new_use (new_use_granted y)
-  pub remain : Row y.interties left (unassigned y)
+pub record Given (y : Inputs) (f : Figures) : Type 0 where
+  pub share : Row y.holders f.shares (step5_share y)
+  pub total : Row y.holders f.totals (step7_total y)
+  pub hold : Row y.holders f.held (held y)
+  pub granted : Pairs y.holders y.interties f.pre_ra (pre_ra_granted y)
+  pub kept : Pairs y.holders y.interties f.new_use (new_use_granted y)
+  pub remain : Row y.interties f.unassigned (unassigned y)
 
-module _ (kw ties : List ℕ) (I H : ℕ) (v : Valid (of_tables I H kw ties)) (shares totals holds pre_ra new_use left : List ℕ)
-    (g : Given (of_tables I H kw ties) shares totals holds pre_ra new_use left) where
+module _ (tables : Tables) (I H : ℕ) (v : Valid (inputs tables I H)) (f : Figures) (g : Given (inputs tables I H) f) where
   abbrev y : Inputs
-  y = of_tables I H kw ties
+  y = inputs tables I H
 
   -- E, P and N of a pair are words
   pair_small : (h i : ℕ) → h < H → i < I → y.existing h i + pre_ra_granted y h i + new_use_granted y h i ≤ 960000000
   unfolding held_on
   pair_small h i k l = omega (arith, held-on-most y v h i k l)
 
-  figures-same : (s t : List ℕ) → s ≡ t → figures_written kw I H shares totals holds s ≡ figure_words y t
+  figures-same : (s t : List ℕ) → s ≡ t → figures_written tables I H f s ≡ figure_words y t
   unfolding figure_words
   figures-same s t e =
       row_same 6 _ _ _ _ _ _ refl (λ h l. low-is _ _ (g.hold h l) (held-most y v h l))
@@ -58,14 +59,14 @@ module _ (kw ties : List ℕ) (I H : ℕ) (v : Valid (of_tables I H kw ties)) (s
       (row_same 2 _ _ _ _ _ _ refl (λ i l. low-is (y.outside i) _ refl (omega (arith, limit-parts y v i l, v.limit-most i l)))
       (row_same 1 _ _ _ _ _ _ refl (λ i l. low-is (y.limit i) _ refl (omega (arith, v.limit-most i l))) e)))))
 
-  reserved-same : (s t : List ℕ) → s ≡ t → reserved_written kw I H pre_ra new_use s ≡ reserved_words y t
+  reserved-same : (s t : List ℕ) → s ≡ t → reserved_written tables I H f s ≡ reserved_words y t
   unfolding reserved_words
   reserved-same s t e =
       pairs-same 71 _ _ _ _ _ _ _ _ refl refl (λ h i k l. low-is _ _ (g.kept h i k l) (omega (arith, pair_small h i k l)))
       (pairs-same 39 _ _ _ _ _ _ _ _ refl refl (λ h i k l. low-is _ _ (g.granted h i k l) (omega (arith, pair_small h i k l)))
       (pairs-same 7 _ _ _ _ _ _ _ _ refl refl (λ h i k l. low-is (y.existing h i) _ refl (omega (arith, pair_small h i k l))) e))
 
-  stage-same : (s t : List ℕ) → s ≡ t → stage_written I H left shares s ≡ stage_words y t
+  stage-same : (s t : List ℕ) → s ≡ t → stage_written I H f s ≡ stage_words y t
   unfolding stage_words
   stage-same s t e =
       row_same 105 _ _ _ _ _ _ refl (λ h l. low-is _ _ (g.share h l) (share-most y v h l))
@@ -79,6 +80,6 @@ module _ (kw ties : List ℕ) (I H : ℕ) (v : Valid (of_tables I H kw ties)) (s
   unfolding size_words
   sizes-same s = refl
 
-  pub opened-written : (s : List ℕ) → state_written kw I H shares totals holds pre_ra new_use left s ≡ opened_state y s
+  pub opened-written : (s : List ℕ) → state_written tables I H f s ≡ opened_state y s
   unfolding opened_state
   opened-written s = cleared-same _ _ (stage-same _ _ (reserved-same _ _ (figures-same _ _ (sizes-same s))))

@@ -2,34 +2,71 @@
 ghost use Rattle.std.specs.Prelude.{◌≡◌, ℕ, ◌+◌, ◌≤◌, ◌<◌, length};
 ghost use Rattle.base.specs.Limits.{most_total_kw};
 ghost use Rattle.base.specs.Words.{at, tab};
-ghost use Rattle.opening.specs.Workers.Figures.{KwTables, held_from, HeldGiven, HeldTaken};
+ghost use Rattle.opening.specs.Workers.Figures.{held_from, HeldGiven, HeldTaken};
 
-use base::limits::MOST_INTERTIES;
+use base::limits::{MOST_HOLDERS, MOST_INTERTIES, MOST_PAIRS};
 use base::vectors::sum_of;
-use sheet_reading::tables::{EXISTING, HOLDER_INTERTIES, LOAD_SHARES};
+use sheet_reading::tables::{EXISTING, HOLDER_INTERTIES, LOAD_SHARES, Tables};
 
-// What a holder holds: all its E, P and N.
-fn held_by(kw: &[u64], interties: usize, holder: usize, pre_ra: &[u64], new_use: &[u64]) -> u64
-    requires { KwTables interties (holder + 1) kw.now pre_ra.now new_use.now }
-    ensures { result ≡ held_from interties kw.now pre_ra.now new_use.now holder }
-{
-    let existing = EXISTING + HOLDER_INTERTIES * holder;
-    let existing_end = existing + interties;
-    let row = MOST_INTERTIES * holder;
-    let row_end = row + interties;
-    sum_of(&kw[existing..existing_end])
-        + sum_of(&pre_ra[row..row_end])
-        + sum_of(&new_use[row..row_end])
+// What Steps 5 to 7 are made over: T, the tables of a sheet, how many interties and holders it has, and P and N of every pair.
+// E, P and N of a pair are each at most what a record may have, and the holders together hold at most T.
+#[derive(Clone, Copy)]
+pub(super) struct Reserves<'a> {
+    pub(super) total: u64,
+    pub(super) tables: &'a Tables,
+    pub(super) interties: usize,
+    pub(super) holders: usize,
+    pub(super) pre_ra: &'a [u64; MOST_PAIRS],
+    pub(super) new_use: &'a [u64; MOST_PAIRS],
+    ghost given: { HeldGiven total tables.now.kw interties holders pre_ra.now new_use.now },
 }
 
-// What every holder holds.
-fn fill_held(kw: &[u64], interties: usize, pre_ra: &[u64], new_use: &[u64], held: &mut [u64])
-    requires { KwTables interties (length held.old) kw.now pre_ra.now new_use.now }
-    ensures { held.new
-        ≡ tab (length held.old) (held_from interties kw.now pre_ra.now new_use.now) }
-{
-    for holder in 0..held.len() {
-        held[holder] = held_by(kw, interties, holder, pre_ra, new_use);
+impl Reserves<'_> {
+    // What a holder holds: all its E, P and N.
+    fn held_by(self, holder: usize) -> u64
+        requires { holder < self.holders }
+        ensures { let r = self.entry in result ≡ held_from r.interties r.tables.now.kw r.pre_ra.now r.new_use.now holder }
+    {
+        let kw = &self.tables.kw;
+        let pre_ra = self.pre_ra;
+        let new_use = self.new_use;
+        let existing = EXISTING + HOLDER_INTERTIES * holder;
+        let existing_end = existing + self.interties;
+        let row = MOST_INTERTIES * holder;
+        let row_end = row + self.interties;
+        sum_of(&kw[existing..existing_end])
+            + sum_of(&pre_ra[row..row_end])
+            + sum_of(&new_use[row..row_end])
+    }
+
+    // What every holder holds.
+    fn fill_held(self, held: &mut [u64])
+        requires { length held.old ≡ self.holders }
+        ensures { let r = self.entry in held.new
+            ≡ tab (length held.old) (held_from r.interties r.tables.now.kw r.pre_ra.now r.new_use.now) }
+    {
+        for (holder, kw) in held.iter_mut().enumerate() {
+            *kw = self.held_by(holder);
+        }
+    }
+
+    // Steps 5 to 7: writes what each holder holds, its Step 5 share and its Step 7 total over the first words of three rows.
+    pub(super) fn steps_5_to_7(
+        self,
+        held: &mut [u64; MOST_HOLDERS],
+        shares: &mut [u64; MOST_HOLDERS],
+        totals: &mut [u64; MOST_HOLDERS],
+    )
+        ensures { let r = self.entry in
+            HeldTaken r.total r.tables.now.kw r.interties r.holders r.pre_ra.now r.new_use.now held.new shares.new totals.new }
+    {
+        let held = &mut held[..self.holders];
+        let shares = &mut shares[..self.holders];
+        let kw = &self.tables.kw;
+        let end = LOAD_SHARES + self.holders;
+        self.fill_held(held);
+        step_5::step_5_shares(self.total, held, &kw[LOAD_SHARES..end], shares);
+        fill_totals(held, shares, &mut totals[..self.holders]);
     }
 }
 
@@ -40,28 +77,7 @@ fn fill_totals(held: &[u64], shares: &[u64], totals: &mut [u64])
     ensures { totals.new
         ≡ tab (length totals.old) (λ (h : ℕ). at held.now h + at shares.now h) }
 {
-    for h in 0..totals.len() {
-        totals[h] = held[h] + shares[h];
+    for (h, total) in totals.iter_mut().enumerate() {
+        *total = held[h] + shares[h];
     }
-}
-
-// Steps 5 to 7, over rows that have a number for each holder.
-pub(super) fn steps_5_to_7(
-    total: u64,
-    kw: &[u64],
-    interties: usize,
-    pre_ra: &[u64],
-    new_use: &[u64],
-    held: &mut [u64],
-    shares: &mut [u64],
-    totals: &mut [u64],
-)
-    requires { HeldGiven total kw.now interties pre_ra.now new_use.now held.old shares.old totals.old }
-    ensures { HeldTaken total kw.now interties (length held.old)
-        pre_ra.now new_use.now held.new shares.new totals.new }
-{
-    fill_held(kw, interties, pre_ra, new_use, held);
-    let end = LOAD_SHARES + held.len();
-    step_5::step_5_shares(total, held, &kw[LOAD_SHARES..end], shares);
-    fill_totals(held, shares, totals);
 }

@@ -43,14 +43,7 @@ pub fn open_with_quantities(
     }
     let interties = words::intertie_count(sheet) as usize;
     let holders = words::holder_count(sheet) as usize;
-    let total = year::steps_2_to_7(
-        &tables.kw,
-        &tables.interties,
-        interties,
-        holders,
-        quantities,
-        state,
-    );
+    let total = year::steps_2_to_7(&tables, interties, holders, quantities, state);
     Ok(Granted {
         kw: total,
         passes: 0,

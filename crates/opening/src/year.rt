@@ -2,67 +2,56 @@
 ghost use Rattle.std.specs.Prelude.{◌≡◌, ◌≤◌, length};
 ghost use Rattle.base.specs.Limits.{state_words};
 ghost use Rattle.base.specs.Words.{fill};
-ghost use Rattle.steps.specs.Tables.{of_tables};
 ghost use Rattle.steps.specs.Valid.{Valid};
 ghost use Rattle.steps.specs.Step2.{available_total, load_share_quantity};
+ghost use Rattle.steps_2_to_4.specs.Reserved.{inputs};
 ghost use Rattle.opening.specs.Opened.{opened_state};
 
-use super::figures;
+use super::figures::Reserves;
 use base::limits::{MOST_HOLDERS, MOST_INTERTIES, MOST_PAIRS};
-use sheet_reading::tables::SLOTS;
+use opened_state::Figures;
+use sheet_reading::tables::Tables;
 
 // Carries out Steps 2 to 7 from the tables of a sheet that stands, into the state; the Load Share Quantities go over the
 // first words of a row. Answers T.
 pub(super) fn steps_2_to_7(
-    kw: &[u64; SLOTS],
-    ties: &[u16; SLOTS],
+    tables: &Tables,
     interties: usize,
     holders: usize,
     quantities: &mut [u64; MOST_HOLDERS],
     state: &mut [u32],
 ) -> u64
-    requires { Valid (of_tables interties holders kw.now ties.now) × (state_words ≤ length state.old) }
-    ensures { let y = of_tables interties holders kw.now ties.now in (result ≡ available_total y)
+    requires { Valid (inputs tables.now interties holders) × (state_words ≤ length state.old) }
+    ensures { let y = inputs tables.now interties holders in (result ≡ available_total y)
         × (quantities.new ≡ fill holders (load_share_quantity y) quantities.old)
         × (state.new ≡ opened_state y state.old) }
 {
-    let mut unassigned = [0u64; MOST_INTERTIES];
-    let mut pre_ra = [0u64; MOST_PAIRS];
-    let mut new_use = [0u64; MOST_PAIRS];
+    let mut figures = Figures {
+        shares: [0; MOST_HOLDERS],
+        totals: [0; MOST_HOLDERS],
+        held: [0; MOST_HOLDERS],
+        pre_ra: [0; MOST_PAIRS],
+        new_use: [0; MOST_PAIRS],
+        unassigned: [0; MOST_INTERTIES],
+    };
     let total = steps_2_to_4::reserve(
-        kw,
-        ties,
+        tables,
         interties,
         holders,
         quantities,
-        &mut unassigned,
-        &mut pre_ra,
-        &mut new_use,
+        &mut figures.unassigned,
+        &mut figures.pre_ra,
+        &mut figures.new_use,
     );
-    let mut held = [0u64; MOST_HOLDERS];
-    let mut shares = [0u64; MOST_HOLDERS];
-    let mut totals = [0u64; MOST_HOLDERS];
-    figures::steps_5_to_7(
+    let reserves = Reserves {
         total,
-        kw,
-        interties,
-        &pre_ra,
-        &new_use,
-        &mut held[..holders],
-        &mut shares[..holders],
-        &mut totals[..holders],
-    );
-    opened_state::write_state(
-        state,
-        kw,
+        tables,
         interties,
         holders,
-        &shares,
-        &totals,
-        &held,
-        &pre_ra,
-        &new_use,
-        &unassigned,
-    );
+        pre_ra: &figures.pre_ra,
+        new_use: &figures.new_use,
+    };
+    reserves.steps_5_to_7(&mut figures.held, &mut figures.shares, &mut figures.totals);
+    opened_state::write_state(state, tables, interties, holders, &figures);
     total
 }
