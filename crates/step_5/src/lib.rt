@@ -51,8 +51,8 @@ fn sum_marked(mark: u8, marks: &[u8], numbers: &[u64]) -> u64
     ensures { let numbers = numbers.now in result ≡ together (length numbers) mark marks.now numbers }
 {
     let mut sum = 0;
-    for (i, number) in numbers.iter().enumerate() {
-        sum += if_marked(marks[i], mark, *number);
+    for (own, number) in marks.iter().zip(numbers) {
+        sum += if_marked(*own, mark, *number);
     }
     sum
 }

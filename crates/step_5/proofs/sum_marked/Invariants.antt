@@ -1,6 +1,7 @@
--- `sum_marked` meets its contract: after i turns the sum is that of the first i holders with the mark (`LoopLaws`).
+-- `sum_marked` meets its contract: after some turns the sum is that of as many holders with the mark (`LoopLaws`).
+use Rattle.base.proofs.Prelude.{length}
 use Rattle.step_5.proofs.LoopLaws.{Summed}
 use Rattle.step_5.proofs.sum_marked.Given as goal
 
-abbrev pub invariant-loop-i : goal.invariant-loop-i
-invariant-loop-i l = Summed l.mark l.marks l.numbers l.sum l.i
+abbrev pub invariant-loop-own : goal.invariant-loop-own
+invariant-loop-own l = Summed l.mark l.marks l.numbers l.sum (length l.yielded)
