@@ -116,7 +116,8 @@ struct Claims<'a> {
 }
 
 impl Claims<'_> {
-    // Shares out on one intertie by the share-out; claimed and output are room for what its holders claim and get.
+    // Shares out on one intertie by the share-out; claimed and output are room for what its holders claim and get. (Lent, since
+    // arrays of its own would be cleared on each intertie; and apart, since a struct of both would be taken apart here at once.)
     fn share_out_gathered(
         self,
         intertie: usize,

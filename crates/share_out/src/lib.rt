@@ -88,7 +88,8 @@ fn open_weight(unmet: u64, weight: u64) -> u64
     if 0 < unmet { weight } else { 0 }
 }
 
-// Before anything is granted, notes the weight that each holder brings into W; hands back W, the open weights' sum.
+// Before anything is granted, notes the weight that each holder brings into W; hands back W, the open weights' sum. (By place,
+// as the passes go: a zip of three lists would yield pairs in pairs.)
 fn weigh_open(claims: &[u64], weights: &[u64], open_weights: &mut [u64; MOST_HOLDERS]) -> u64
     requires { Weighable claims.now weights.now open_weights.old }
     ensures { let claims = claims.now in
