@@ -62,6 +62,8 @@ impl Called<'_> {
             answers,
             count,
         } = self;
+        // By place: over `zip` and `take` a turn's call and answer are known only by what the iterators have left, which took
+        // a longer proof.
         let (calls, _) = calls.as_chunks::<CALL_WORDS>();
         let (answers, _) = answers.as_chunks::<ANSWER_WORDS>();
         let mut sum = 0;

@@ -72,7 +72,8 @@ pub fn of_holder(state: &[u32], field: u32, holder: u32) -> u64
     sum
 }
 
-// A field of the pairs on an intertie, summed over the holders.
+// A field of the pairs on an intertie, summed over the holders. (It and `of_holder` differ in which of the two counts: one loop with
+// a closure would be no plainer.)
 pub fn on_intertie(state: &[u32], field: u32, intertie: u32) -> u64
     ensures { let s = state.now in
         (result ≡ sum_to (holders s) (λ (h : ℕ). at s (place (field + h) intertie))) × (result ≤ holders s * 4294967295) }
