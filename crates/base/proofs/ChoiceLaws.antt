@@ -110,3 +110,12 @@ le-or-lt n m = go (leb n m) refl
     go : (b : Bool) → leb n m ≡ b → (n ≤ m) ⊎ (m < n)
     go true e = inl (leb-true n m e)
     go false e = inr (leb-false n m e)
+
+-- a function that tries tests in turn, return by return: the first that holds, or one past it
+pub choice-taken : {A : Type 0} (b condition : Bool) (n rest : A) → b ≡ condition → b ≡ true → n ≡ pick condition n rest
+choice-taken b condition n rest e t = rw (← e, t) refl
+
+pub choice-left : {A : Type 0} (b condition : Bool) (r n rest : A) → b ≡ condition → b ≡ false → r ≡ rest → r ≡ pick condition n rest
+choice-left b condition r n rest e f later = rw (← e, f) later
+
+pub ruleset choices = (choice-taken, choice-left)

@@ -1,7 +1,6 @@
 -- A line's name and numbers as a call.
 use Prim.Native.Nat.{ℕ, ◌+◌, ◌-◌}
 use mathlib.Core.Path.{◌≡◌, refl, sym, ap, ◌∙◌}
-use mathlib.Core.Bool.{Bool, true, false}
 use mathlib.Core.Logic.{◌≢◌}
 use mathlib.Core.List.{List, [], ◌∷◌, ◌++◌}
 use native.Mathlib.Decide.{dec_lt}
@@ -10,7 +9,6 @@ use lib.ListN.{length, drop, replicate, length-replicate, get_or-append, get_or-
 use lib.Seq.{get_or-append-add, get_or-drop}
 use borrow.Author.Tests.{eq-eqb, ne_eqb}
 use Rattle.std.specs.Prelude.{Option, Some, None, Result, Ok, Err}
-use Rattle.base.specs.Choice.{pick}
 use Rattle.base.specs.Words.{at}
 use Rattle.base.specs.declared.encoding.CallKind.{CallKind}
 use Rattle.base.specs.declared.encoding.CallKind.TheVariants.{Trade, Request, Close, Take, Move, Lock}
@@ -19,15 +17,6 @@ use Rattle.journal.specs.Calls.{kind_of, takes, numbers_of, call_with, made, nam
 use Rattle.journal.specs.declared.calls.Call.{Call}
 use Rattle.journal.specs.declared.faults.Fault.{Fault}
 use Rattle.journal.specs.declared.faults.Fault.TheVariants.{NotACall}
-
--- a function that tries tests in turn, return by return: the first that holds, or one past it
-pub choice-taken : {A : Type 0} (b condition : Bool) (n rest : A) → b ≡ condition → b ≡ true → n ≡ pick condition n rest
-choice-taken b condition n rest e t = rw (← e, t) refl
-
-pub choice-left : {A : Type 0} (b condition : Bool) (r n rest : A) → b ≡ condition → b ≡ false → r ≡ rest → r ≡ pick condition n rest
-choice-left b condition r n rest e f later = rw (← e, f) later
-
-pub ruleset choices = (choice-taken, choice-left)
 
 -- numbers in front of zeros are the words of the list
 zeros-at : (n i : ℕ) → at (replicate n 0) i ≡ 0

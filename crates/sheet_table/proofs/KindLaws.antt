@@ -1,7 +1,7 @@
 -- Which kind a name names, and which name a number has.
 use Prim.Native.Nat.{ℕ, ◌≤◌}
 use mathlib.Core.Path.{◌≡◌, refl, ap, ◌∙◌}
-use mathlib.Core.Bool.{Bool, true, false, not, ◌&&◌}
+use mathlib.Core.Bool.{true, not, ◌&&◌}
 use mathlib.Core.Logic.{◌≢◌}
 use mathlib.Core.List.{List, []}
 use native.Mathlib.Omega.{arith}
@@ -12,15 +12,6 @@ use Rattle.base.specs.Kind.{number_of}
 use Rattle.base.specs.declared.kinds.Kind.{Kind}
 use Rattle.base.specs.declared.kinds.Kind.TheVariants.{Limit, OutsideRight, LoadShare, ExistingContract, PreRaCommitment, NewUseCommitment}
 use Rattle.sheet_table.specs.Kinds.{name, name_of}
-
--- a function that tries tests in turn, return by return: the first that holds, or one past it
-pub choice-taken : {A : Type 0} (b condition : Bool) (n rest : A) → b ≡ condition → b ≡ true → n ≡ pick condition n rest
-choice-taken b condition n rest e t = rw (← e, t) refl
-
-pub choice-left : {A : Type 0} (b condition : Bool) (r n rest : A) → b ≡ condition → b ≡ false → r ≡ rest → r ≡ pick condition n rest
-choice-left b condition r n rest e f later = rw (← e, f) later
-
-pub ruleset choices = (choice-taken, choice-left)
 
 -- the name of a kind is that of its number
 own-name : (kind : Kind) → name kind ≡ name_of (number_of kind)

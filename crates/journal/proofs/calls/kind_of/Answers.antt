@@ -1,6 +1,6 @@
 -- `kind_of` meets its contract, name by name.
 use Rattle.journal.specs.Calls.{kind_of}
-use Rattle.journal.proofs.CallLaws.{choices}
+use Rattle.base.proofs.ChoiceLaws.{choices}
 use Rattle.journal.proofs.calls.kind_of.Goals as goal
 
 pub returns-then-same : goal.returns-then-same

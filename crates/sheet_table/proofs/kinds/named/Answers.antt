@@ -1,6 +1,6 @@
 -- `named` meets its contract, name by name.
 use Rattle.sheet_table.specs.Kinds.{named}
-use Rattle.sheet_table.proofs.KindLaws.{choices}
+use Rattle.base.proofs.ChoiceLaws.{choices}
 use Rattle.sheet_table.proofs.kinds.named.Goals as goal
 
 pub returns-then-is_name : goal.returns-then-is_name
