@@ -4,7 +4,8 @@ ghost use Rattle.base.specs.Kind.{number_of};
 ghost use Rattle.base.specs.Kinds.{limit_kind, new_use_kind};
 ghost use Rattle.base.specs.Numbered.{Decodes};
 
-// The kinds of record by their numbers.
+// The kinds of record by their numbers. (`number` and `try_from` are written here, in stages.rt and in encoding.rt alike: an
+// impl can't come from a macro of our own, and no trait can give an enum its `TryFrom`.)
 #[derive(Clone, Copy, Debug, PartialEq, Eq)]
 pub enum Kind {
     // Limit (Maximum Import Capability) of an intertie.

@@ -187,7 +187,7 @@ fn complete(
 }
 
 // Shares the pool out in passes until it is empty; hands back how many were made. From pass to pass it keeps W
-// (`all`) and the weight that each holder brings into it, which is 0 once its claim is met.
+// (`all`) and the weight that each holder brings into it, which is 0 once its claim is met. (A loop: what ends it is an empty pool.)
 fn by_passes(pool: u64, claims: &[u64], weights: &[u64], grants: &mut [u64]) -> u64
     requires { Ready pool claims.now weights.now grants.old }
     ensures { shared pool claims.now weights.now

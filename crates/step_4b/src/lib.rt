@@ -62,7 +62,8 @@ fn sixteen_zeros(numbers: &[u64], from: usize) -> bool
         == 0
 }
 
-// How many of the first ranks are to be gone through: past them, in sixteens, none has kW.
+// How many of the first ranks are to be gone through: past them, in sixteens, none has kW. (A while: it goes back from the end,
+// as long as a test holds.)
 fn used_ranks(kw: &[u64], ranks: usize) -> usize
     requires { ranks ≤ length kw.now }
     ensures { Used kw.now ranks result }

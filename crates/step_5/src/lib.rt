@@ -115,7 +115,7 @@ impl Holders<'_> {
         newly
     }
 
-    // Repeats until a round excludes none.
+    // Repeats until a round excludes none. (A loop: what ends it is what a round answers, and no list is walked.)
     fn settle(self, marks: &mut [u8])
         requires { marks.old ≡ all_eligible self.held.now }
         ensures { marks.new ≡ settled self.entry.total self.entry.held.now self.entry.loads.now }
