@@ -126,15 +126,38 @@ impl Library {
         let path = self.crates.join(file);
         let source = fs::read_to_string(&path).map_err(|e| format!("{}: {e}", path.display()))?;
         let source = without_comments(&source);
-        let found = source.lines().filter_map(|line| {
-            let (_, rest) = line.split_once("const ")?;
-            let (name, rest) = rest.split_once(':')?;
-            let (_, value) = rest.split_once('=')?;
-            let value = value.trim().strip_suffix(';')?;
-            Some((name.trim().to_string(), value.to_string()))
-        });
+        let found = source
+            .lines()
+            .filter_map(|line| definition(line).or_else(|| variant(line)));
         Ok(found.collect())
     }
+}
+
+/// A constant of a line, with what it is defined as.
+fn definition(line: &str) -> Option<(String, String)> {
+    let (_, rest) = line.split_once("const ")?;
+    let (name, rest) = rest.split_once(':')?;
+    let (_, value) = rest.split_once('=')?;
+    let value = value.trim().strip_suffix(';')?;
+    Some((name.trim().to_string(), value.to_string()))
+}
+
+/// A numbered variant of an enum, by the name that a constant would have: `LoadShare = 3,` is LOAD_SHARE.
+fn variant(line: &str) -> Option<(String, String)> {
+    let (name, value) = line.trim().strip_suffix(',')?.split_once(" = ")?;
+    let is_name = name.starts_with(|c: char| c.is_ascii_uppercase())
+        && name.chars().all(|c| c.is_ascii_alphanumeric());
+    if !is_name || value.parse::<u32>().is_err() {
+        return None;
+    }
+    let mut constant = String::new();
+    for c in name.chars() {
+        if c.is_ascii_uppercase() && !constant.is_empty() {
+            constant.push('_');
+        }
+        constant.push(c.to_ascii_uppercase());
+    }
+    Some((constant, value.to_string()))
 }
 
 /// A function from the text after its `fn`.
