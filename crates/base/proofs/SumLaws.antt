@@ -1,9 +1,9 @@
 -- Laws of `sum_to` and `all_to`, each by induction on the count.
-use Rattle.std.proofs.Common.{◌≡◌, ℕ, zero, suc, ◌+◌, ◌*◌, ◌<◌, ◌≤◌, Bool, true, false, ◌&&◌, eqb, leb, ◌≢◌, ◌⊎◌, sym, refl, ap, ◌∙◌, ⊎_elim, zero-le, le_trans, le_refl, le_of_suc-le-suc, not-suc-le-zero, add-zero, add-suc, mul-le-mul_right, lt-suc_self, suc-mul, eq-or-lt_of_le, mul-zero, mul-suc, mul-add, add-one, arith, eq-eqb, eqb-true, le-leb, leb-true}
+use Rattle.std.proofs.Common.{◌≡◌, ℕ, zero, suc, ◌+◌, ◌*◌, ◌<◌, ◌≤◌, Bool, true, ◌&&◌, eqb, leb, ◌≢◌, ◌⊎◌, sym, refl, ap, ◌∙◌, ⊎_elim, zero-le, le_trans, le_refl, le_of_suc-le-suc, not-suc-le-zero, add-zero, add-suc, mul-le-mul_right, lt-suc_self, suc-mul, eq-or-lt_of_le, mul-zero, mul-suc, mul-add, add-one, arith, eq-eqb, eqb-true, le-leb, leb-true}
 use mathlib.Core.Bool.{and-true, and_assoc}
 use native.Mathlib.Nat.{le_step}
 use Rattle.base.specs.Sums.{sum_to, all_to}
-use Rattle.base.proofs.ChoiceLaws.{and_left, and_right, and_both, and-false, same_test}
+use Rattle.base.proofs.ChoiceLaws.{and_left, and_right, and_both, same_test}
 
 -- a number below suc n is n, or below n
 pub below_suc : {i n : ℕ} → i < suc n → (i ≡ n) ⊎ (i < n)
@@ -136,10 +136,6 @@ pub all_to-suc : (n : ℕ) (p : ℕ → Bool) → all_to n p ≡ true → p n �
 unfolding all_to
 all_to-suc n p a h = and_both (all_to n p) (p n) a h
 
--- one number more, as a loop counts
-pub all_to-more : (n : ℕ) (p : ℕ → Bool) → all_to n p ≡ true → p n ≡ true → all_to (n + 1) p ≡ true
-all_to-more n p a h = rw (add-one n) (all_to-suc n p a h)
-
 -- a further turn of a loop that tests all, and the end of such a loop
 pub all_more : (n : ℕ) (p : ℕ → Bool) (b x : Bool) → b ≡ all_to n p → x ≡ p n → b && x ≡ all_to (n + 1) p
 unfolding all_to
@@ -163,18 +159,6 @@ pub all_to-all : (n : ℕ) (p : ℕ → Bool) → ((i : ℕ) → i < n → p i �
 unfolding all_to
 all_to-all zero p h = refl
 all_to-all (suc n) p h = and_both (all_to n p) (p n) (all_to-all n p (λ i l. h i (le_step l))) (h n (lt-suc_self n))
-
--- one that fails fails all
-pub all_to-fails : (n : ℕ) (p : ℕ → Bool) (i : ℕ) → i < n → p i ≡ false → all_to n p ≡ false
-unfolding all_to
-all_to-fails zero p i l f = absurd (not-suc-le-zero l)
-all_to-fails (suc n) p i l f =
-    ⊎_elim
-    (λ (e : i ≡ n). and-false (all_to n p) (p n) (rw e at f))
-    (λ (m : i < n).
-    let r : all_to n p ≡ false = all_to-fails n p i m f in
-    rw r refl)
-    (below_suc l)
 
 -- the same tests hold together
 pub all_to-same : (n : ℕ) (p q : ℕ → Bool) → ((i : ℕ) → i < n → p i ≡ q i) → all_to n p ≡ all_to n q

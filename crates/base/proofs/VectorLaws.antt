@@ -91,9 +91,6 @@ module _ (f : ℕ → ℕ → ℕ) (first : List ℕ) where
       (λ i l.
       less-more (at first i) (at row i) m (at row i - f m i) (λ k. f k i) (ap (λ l. at l i) e ∙ at-tab (length first) _ i l) refl)
 
-  pub at-lowered : (m : ℕ) (after : List ℕ) (i : ℕ) → after ≡ lowered f first m → i < length first → at after i ≡ at first i - sum_to m (λ h. f h i)
-  at-lowered m after i e l = ap (λ l. at l i) e ∙ at-tab (length first) _ i l
-
 -- a word of the part that came back
 pub at_part : (a k : ℕ) (l part : List ℕ) (c : ℕ) → a ≤ length l → c < length part → at (put_mid a k l part) (a + c) ≡ at part c
 at_part a k l part c inside b =

@@ -5,6 +5,8 @@ ghost use Rattle.base.specs.CallKind.{number_of};
 ghost use Rattle.base.specs.Encoding.{trade_call, lock_call};
 ghost use Rattle.base.specs.Numbered.{Decodes};
 
+use crate::numbered::Unnamed;
+
 // The words of a call: its kind, three numbers, and the low and the high word of its kW.
 pub const CALL_WORDS: usize = 6;
 
@@ -37,16 +39,12 @@ impl CallKind {
     }
 }
 
-// A number that names no kind of call.
-#[derive(Clone, Copy, Debug, PartialEq, Eq)]
-pub struct NoCall;
-
 impl TryFrom<u32> for CallKind {
-    type Error = NoCall;
+    type Error = Unnamed;
 
     ghost try_from_gives = { Decodes number_of trade_call lock_call };
 
-    fn try_from(number: u32) -> Result<CallKind, NoCall> {
+    fn try_from(number: u32) -> Result<CallKind, Unnamed> {
         match number {
             1 => Ok(CallKind::Trade),
             2 => Ok(CallKind::Request),
@@ -54,7 +52,7 @@ impl TryFrom<u32> for CallKind {
             4 => Ok(CallKind::Take),
             5 => Ok(CallKind::Move),
             6 => Ok(CallKind::Lock),
-            _ => Err(NoCall),
+            _ => Err(Unnamed),
         }
     }
 }

@@ -4,6 +4,8 @@ ghost use Rattle.base.specs.Kind.{number_of};
 ghost use Rattle.base.specs.Kinds.{limit_kind, new_use_kind};
 ghost use Rattle.base.specs.Numbered.{Decodes};
 
+use crate::numbered::Unnamed;
+
 // The kinds of record by their numbers. (`number` and `try_from` are written here, in stages.rt and in encoding.rt alike: an
 // impl can't come from a macro of our own, and no trait can give an enum its `TryFrom`.)
 #[derive(Clone, Copy, Debug, PartialEq, Eq)]
@@ -31,16 +33,12 @@ impl Kind {
     }
 }
 
-// A number that names no kind.
-#[derive(Clone, Copy, Debug, PartialEq, Eq)]
-pub struct NoKind;
-
 impl TryFrom<u32> for Kind {
-    type Error = NoKind;
+    type Error = Unnamed;
 
     ghost try_from_gives = { Decodes number_of limit_kind new_use_kind };
 
-    fn try_from(number: u32) -> Result<Kind, NoKind> {
+    fn try_from(number: u32) -> Result<Kind, Unnamed> {
         match number {
             1 => Ok(Kind::Limit),
             2 => Ok(Kind::OutsideRight),
@@ -48,7 +46,7 @@ impl TryFrom<u32> for Kind {
             4 => Ok(Kind::ExistingContract),
             5 => Ok(Kind::PreRaCommitment),
             6 => Ok(Kind::NewUseCommitment),
-            _ => Err(NoKind),
+            _ => Err(Unnamed),
         }
     }
 }

@@ -5,6 +5,7 @@
 pub mod encoding;
 pub mod kinds;
 pub mod limits;
+pub mod numbered;
 pub mod refusals;
 pub mod stages;
 pub mod vectors;

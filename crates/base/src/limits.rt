@@ -1,4 +1,6 @@
 // The limits of the rules, each named here once; specs/Limits has the same numbers for the contracts.
+ghost use Rattle.std.specs.Prelude.{◌≡◌, ◌&&◌, leb};
+ghost use Rattle.base.specs.Limits.{most_interties, most_holders};
 
 // The interties of a sheet, at least 1.
 pub const MOST_INTERTIES: usize = 48;
@@ -53,3 +55,26 @@ pub const RECORD_BYTES: usize = 8;
 
 // The bytes of the longest sheet.
 pub const MOST_SHEET_BYTES: usize = 8_204;
+
+// How many values a word of 32 bits has.
+pub const WORD_VALUES: u64 = 4_294_967_296;
+
+// The same limits for the words of a sheet and of a state, which have 32 bits.
+pub mod words {
+    pub const MOST_INTERTIES: u32 = super::MOST_INTERTIES as u32;
+
+    pub const MOST_HOLDERS: u32 = super::MOST_HOLDERS as u32;
+
+    pub const MOST_KW: u32 = super::MOST_KW as u32;
+
+    pub const MOST_LOAD_SHARE: u32 = super::MOST_LOAD_SHARE as u32;
+
+    pub const MOST_TOTAL_KW: u32 = super::MOST_TOTAL_KW as u32;
+}
+
+// Whether I and H are in range.
+pub fn sizes_in_range(interties: u32, holders: u32) -> bool
+    ensures { result ≡ (leb 1 interties && leb interties most_interties && leb 1 holders && leb holders most_holders) }
+{
+    (1..=words::MOST_INTERTIES).contains(&interties) & (1..=words::MOST_HOLDERS).contains(&holders)
+}

@@ -4,6 +4,8 @@ ghost use Rattle.base.specs.Stage.{number_of};
 ghost use Rattle.base.specs.Stages.{trading_stage, open_stage};
 ghost use Rattle.base.specs.Numbered.{Decodes};
 
+use crate::numbered::Unnamed;
+
 // The stages by their numbers.
 #[derive(Clone, Copy, Debug, PartialEq, Eq)]
 pub enum Stage {
@@ -26,22 +28,18 @@ impl Stage {
     }
 }
 
-// A number that names no stage.
-#[derive(Clone, Copy, Debug, PartialEq, Eq)]
-pub struct NoStage;
-
 impl TryFrom<u32> for Stage {
-    type Error = NoStage;
+    type Error = Unnamed;
 
     ghost try_from_gives = { Decodes number_of trading_stage open_stage };
 
-    fn try_from(number: u32) -> Result<Stage, NoStage> {
+    fn try_from(number: u32) -> Result<Stage, Unnamed> {
         match number {
             1 => Ok(Stage::Trading),
             2 => Ok(Stage::FirstRequests),
             3 => Ok(Stage::SecondRequests),
             4 => Ok(Stage::Open),
-            _ => Err(NoStage),
+            _ => Err(Unnamed),
         }
     }
 }

@@ -1,9 +1,19 @@
 // Lists of numbers: cleared, tested, added up, taken off one another. A caller lends the very words that are meant.
-ghost use Rattle.std.specs.Prelude.{◌≡◌, ℕ, ◌-◌, ◌%◌, ◌^◌, length, nat_le, get_or, []};
+ghost use Rattle.std.specs.Prelude.{◌≡◌, ℕ, ◌-◌, ◌%◌, ◌^◌, ◌&&◌, length, nat_le, leb, eqb, get_or, []};
+ghost use Rattle.base.specs.Limits.{most_holders};
 ghost use Rattle.base.specs.Sums.{sum_to, all_to};
 ghost use Rattle.base.specs.Words.{at, tab};
 
-// Makes every number 0.
+use crate::limits::MOST_HOLDERS;
+
+// Whether two lists of the holders' numbers are alike in length, of as many holders as there may be, and have room in a third.
+pub fn lengths_fit(first: usize, second: usize, room: usize) -> bool
+    ensures { result ≡ (eqb first second && (leb first most_holders && leb first room)) }
+{
+    (first == second) & ((first <= MOST_HOLDERS) & (first <= room))
+}
+
+// Makes every number 0. (A function for its clause: `fill` says the list as copies, and callers speak of places.)
 pub fn clear(list: &mut [u64])
     ensures { list.new ≡ tab (length list.old) (λ (c : ℕ). 0) }
 {
@@ -17,7 +27,7 @@ pub fn all_within(list: &[u64], most: u64) -> bool
     list.iter().all(|number| *number <= most)
 }
 
-// The sum of the numbers, modulo 2^64.
+// The sum of the numbers, modulo 2^64. (The library's `sum` asks that it fits.)
 pub fn sum_of(list: &[u64]) -> u64
     ensures { result ≡ sum_to (length list.now) (at list.now) % 2 ^ 64 }
 {
@@ -33,7 +43,7 @@ pub fn left_of(start: u64, list: &[u64]) -> u64
 }
 
 // Takes the numbers of a list off those of a row, each off the one at its place; what would be below 0 is 0, and a number
-// of the row past the list's end stays.
+// of the row past the list's end stays. (By place: what a zip of `iter_mut` lends is lost to the proof.)
 pub fn take_off(list: &[u64], row: &mut [u64])
     ensures { row.new
         ≡ tab (length row.old) (λ (c : ℕ). at row.old c - at list.now c) }

@@ -5,7 +5,8 @@ ghost use Rattle.base.specs.Choice.{pick};
 ghost use Rattle.sheet_records.specs.Refusal.{within, bad_length, record_stands, records_stand};
 ghost use Rattle.sheet_reading.specs.Workers.Kinds.{rule_of};
 
-use base::kinds::{Kind, NoKind};
+use base::kinds::Kind;
+use base::numbered::Unnamed;
 use base::limits;
 use base::limits::MOST_YEARS;
 use sheet_keys::key;
@@ -72,7 +73,7 @@ fn rule_of(kind: u32) -> Rule
             least: 1,
             most: MOST_KW,
         },
-        Err(NoKind) => Rule {
+        Err(Unnamed) => Rule {
             holder: false,
             intertie: false,
             rank: false,

@@ -3,7 +3,8 @@ ghost use Rattle.std.specs.Prelude.{◌≡◌};
 ghost use Rattle.text.specs.Ascii.{same};
 ghost use Rattle.sheet_table.specs.Kinds.{name, name_of, named};
 
-use base::kinds::{Kind, NoKind};
+use base::kinds::Kind;
+use base::numbered::Unnamed;
 
 // The name of a kind.
 fn name(kind: Kind) -> &'static [u8]
@@ -25,7 +26,7 @@ pub(crate) fn name_of(kind: u32) -> &'static [u8]
 {
     match Kind::try_from(kind) {
         Ok(kind) => name(kind),
-        Err(NoKind) => b"",
+        Err(Unnamed) => b"",
     }
 }
 
