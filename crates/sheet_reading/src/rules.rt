@@ -6,9 +6,9 @@ ghost use Rattle.sheet_records.specs.Refusal.{within, bad_length, record_stands,
 ghost use Rattle.sheet_reading.specs.Workers.Kinds.{rule_of};
 
 use base::kinds::Kind;
-use base::numbered::Unnamed;
 use base::limits;
 use base::limits::MOST_YEARS;
+use base::numbered::Unnamed;
 use sheet_keys::key;
 use sheet_records::reader::Record;
 use sheet_records::{reader, words};

@@ -59,6 +59,14 @@ impl Tables {
     }
 }
 
+// What a sheet that was read is looked up by: its tables, and how many interties and holders it has.
+#[derive(Clone, Copy)]
+pub struct Read<'a> {
+    pub tables: &'a Tables,
+    pub interties: usize,
+    pub holders: usize,
+}
+
 // A choice without a branch: both numbers are at hand.
 fn either(test: bool, one: u32, other: u32) -> u32
     ensures { result ≡ pick {A = ℕ} test one other }
