@@ -61,11 +61,11 @@ holder-kept tables granted cover last I h quantity beyond allowance left j k n s
     sym (ap (λ (u : NewUse). u.kept) (rw (ranks, places, room, covers, s) at e))
 
 -- the grants that a share-out on each intertie leaves, over claims that the table has
-pub granted-over : (y : Inputs) (pools loads claimed first after : List ℕ) (claim : ℕ → ℕ → ℕ) → y.interties ≤ 48 → y.holders ≤ 32 →
+pub granted-over : (y : Inputs) (pools loads claimed first after : List ℕ) → y.interties ≤ 48 → y.holders ≤ 32 →
     length pools ≡ y.interties → length loads ≡ y.holders → loads ≡ tab y.holders y.load_share →
     length claimed ≡ 1536 → length first ≡ 1536 → after ≡ (share_out_each y.interties y.holders pools claimed loads first).output →
-    Pairs y.holders 48 claimed claim → SharedOver y pools claim first after
-granted-over y pools loads claimed first after claim few small pooled weighed weights wide room e claims =
+    (claim : ℕ → ℕ → ℕ) → Pairs y.holders 48 claimed claim → SharedOver y pools claim first after
+granted-over y pools loads claimed first after few small pooled weighed weights wide room e claim claims =
     e
     ∙ ap (λ (o : Outcome). o.output)
     (each-done y.interties y.holders pools claimed loads first

@@ -1,6 +1,6 @@
 -- A table of the pairs whose rows are written one by one, each lent as a part.
-use Prim.Native.Nat.{ℕ, ◌+◌, ◌-◌, ◌*◌, ◌≤◌, ◌<◌, zero-le}
-use mathlib.Core.Path.{◌≡◌, refl, sym, ap, ◌∙◌}
+use Prim.Native.Nat.{ℕ, ◌+◌, ◌-◌, ◌*◌, ◌≤◌, ◌<◌}
+use mathlib.Core.Path.{◌≡◌, sym, ap, ◌∙◌}
 use mathlib.Core.List.{List}
 use mathlib.Core.Logic.{⊎_elim}
 use native.Mathlib.Numerals.{add-one}
@@ -21,9 +21,6 @@ pub record Rows (f : ℕ → ℕ → ℕ) (holders : ℕ) (first table : List �
   pub filled : Pairs m 48 table f
 
 module _ (f : ℕ → ℕ → ℕ) (holders : ℕ) (first : List ℕ) where
-  pub rows_none : Rows f holders first first 0
-  rows_none = record { inside = zero-le; size = refl; filled = λ h i k l. absurd (omega arith) }
-
   pub rows_next : (table part : List ℕ) (m a e : ℕ) → Rows f holders first table m → m < holders → a ≡ 48 * m → e ≡ a + 48 → 48 * holders ≤ length first →
       length part ≡ 48 → ((i : ℕ) → i < 48 → at part i ≡ f m i) → Rows f holders first (put_mid a (e - a) table part) (m + 1)
   rows_next table part m a e s l start end room size same =

@@ -12,7 +12,8 @@ use base::vectors::left_of;
 use sheet_reading::tables::{EXISTING, HOLDER_INTERTIES, HOLDER_RANKS, NEW_USE, PRE_RA};
 
 impl Sheet<'_> {
-    // Step 4a: a claim is the part of Pre-RA kW above E at that pair.
+    // Step 4a: a claim is the part of Pre-RA kW above E at that pair. (By place: of `as_chunks_mut` nothing is said of what the
+    // slice ends as.)
     pub(super) fn pre_ra_claims(self, claims: &mut [u64; MOST_PAIRS])
         ensures { let y = inputs self.entry.tables.now self.entry.interties self.entry.holders in
             Pairs self.entry.holders most_interties claims.new (pre_ra_claim y) }
@@ -61,7 +62,7 @@ impl Sheet<'_> {
         );
     }
 
-    // Step 4b: the claims of all holders, each with its own Load Share Quantity.
+    // Step 4b: the claims of all holders, each with its own Load Share Quantity. (By place, as above.)
     pub(super) fn new_use_claims(
         self,
         quantities: &[u64],

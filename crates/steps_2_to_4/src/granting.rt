@@ -1,10 +1,11 @@
 // Steps 3 to 4b: P and N of every pair, by share-outs on each intertie.
 ghost use Rattle.std.specs.Prelude.{◌≡◌, ℕ, length};
+ghost use Rattle.base.specs.Limits.{most_interties};
 ghost use Rattle.base.specs.Words.{at, tab};
 ghost use Rattle.steps.specs.Step2.{available, load_share_quantity};
 ghost use Rattle.steps.specs.Step4a.{pre_ra_claim};
 ghost use Rattle.steps_2_to_4.specs.Reserved.{inputs};
-ghost use Rattle.steps_2_to_4.specs.Workers.Vectors.{kept_from, SharedOver};
+ghost use Rattle.steps_2_to_4.specs.Workers.Vectors.{Pairs, kept_from, SharedOver};
 ghost use Rattle.steps_2_to_4.specs.Workers.Steps.{Granted};
 
 use super::Sheet;
@@ -13,8 +14,25 @@ use base::vectors::take_off_each;
 use sheet_reading::tables::{EXISTING, HOLDER_INTERTIES};
 
 impl Sheet<'_> {
-    // Step 4a: shares out what Step 3 left on each intertie over the Pre-RA claims. (Sizes that are asked for here are not
-    // refused.)
+    // Shares out the pool of each intertie over the claims there, with the holders' load shares. (Sizes that are asked for here
+    // are not refused.)
+    fn grant(self, pools: &[u64], claimed: &[u64; MOST_PAIRS], granted: &mut [u64; MOST_PAIRS])
+        requires { length pools.now ≡ self.interties }
+        ensures { let y = inputs self.entry.tables.now self.entry.interties self.entry.holders in
+            (claim : ℕ → ℕ → ℕ) → Pairs y.holders most_interties claimed.now claim
+            → SharedOver y pools.now claim granted.old granted.new }
+    {
+        let _ = intertie_shares::share_out_each(
+            self.interties,
+            self.holders,
+            pools,
+            claimed,
+            self.loads,
+            granted,
+        );
+    }
+
+    // Step 4a: shares out what Step 3 left on each intertie over the Pre-RA claims.
     fn grant_pre_ra(self, pools: &[u64], granted: &mut [u64; MOST_PAIRS])
         requires { length pools.now ≡ self.interties }
         ensures { let y = inputs self.entry.tables.now self.entry.interties self.entry.holders in
@@ -22,14 +40,7 @@ impl Sheet<'_> {
     {
         let mut claimed = [0u64; MOST_PAIRS];
         self.pre_ra_claims(&mut claimed);
-        let _ = intertie_shares::share_out_each(
-            self.interties,
-            self.holders,
-            pools,
-            &claimed,
-            self.loads,
-            granted,
-        );
+        self.grant(pools, &claimed, granted);
     }
 
     // Step 4b: shares out what Step 4a left on each intertie over the New Use kW that stay.
@@ -49,14 +60,7 @@ impl Sheet<'_> {
     {
         let mut claimed = [0u64; MOST_PAIRS];
         self.new_use_claims(quantities, pre_ra, &mut claimed);
-        let _ = intertie_shares::share_out_each(
-            self.interties,
-            self.holders,
-            pools,
-            &claimed,
-            self.loads,
-            granted,
-        );
+        self.grant(pools, &claimed, granted);
     }
 
     // Steps 3 to 4b: from what is available on each intertie, P and N of every pair and what stays unassigned.

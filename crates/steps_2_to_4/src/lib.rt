@@ -66,7 +66,8 @@ impl Sheet<'_> {
 // Reserves: carries out Steps 2 to 4b on the tables of a sheet. Writes the Load Share Quantity of each holder, what
 // stays unassigned on each intertie, and P and N of every pair, over the first words of the rows and tables; answers
 // T. Answers 0 and writes nothing where a size, a limit or a load share is above its most. (Four rows and no struct: three stand
-// in the figures that the state is written from, and the Load Share Quantities with opening's caller.)
+// in the figures that the state is written from, and the Load Share Quantities with opening's caller. 0 and no Option: it can't fail
+// for who has read a sheet that stands, whose T may be 0.)
 pub fn reserve(
     tables: &Tables,
     interties: usize,

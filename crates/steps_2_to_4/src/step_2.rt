@@ -14,13 +14,10 @@ fn quantity(total: u64, load: u64, all: u64) -> u64
     requires { (total ≤ most_total_kw) × (load ≤ most_load_share) }
     ensures { result ≡ total * load / all }
 {
-    if all == 0 {
-        return 0;
-    }
-    total * load / all
+    (total * load).checked_div(all).unwrap_or(0)
 }
 
-// The Load Share Quantities of the holders.
+// The Load Share Quantities of the holders. (By place: what a zip of `iter_mut` lends is lost to the proof.)
 fn fill_quantities(total: u64, all: u64, loads: &[u64], quantities: &mut [u64])
     requires { (total ≤ most_total_kw) × ((h : ℕ) → h < length loads.now → at loads.now h ≤ most_load_share)
         × (length quantities.old ≡ length loads.now) }

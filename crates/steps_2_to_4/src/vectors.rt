@@ -2,8 +2,8 @@
 ghost use Rattle.std.specs.Prelude.{◌≡◌, ℕ, ◌-◌, ◌≤◌, length};
 ghost use Rattle.base.specs.Words.{at, tab};
 
-// Writes over a row what the numbers of a list have above those of another. (By place: what a zip of `iter_mut` lends is lost to
-// the proof.)
+// Writes over a row what the numbers of a list have above those of another. (Not a copy and base's `take_off`: its three callers
+// would have two calls each. By place: what a zip of `iter_mut` lends is lost to the proof.)
 pub(super) fn differences(list: &[u64], other: &[u64], row: &mut [u64])
     requires { (length row.old ≤ length list.now) × (length row.old ≤ length other.now) }
     ensures { row.new

@@ -1,10 +1,5 @@
--- `grant_pre_ra` meets its contract: the claims are those of Step 4a, and each intertie's pool is shared out over them.
-use Rattle.steps_2_to_4.specs.Reserved.{inputs}
-use Rattle.steps_2_to_4.proofs.ClaimLaws.{granted-over}
+-- `grant_pre_ra` meets its contract: the claims that are granted are those of Step 4a.
 use Rattle.steps_2_to_4.proofs.Sheet.grant_pre_ra.Goals as goal
 
 pub returns : goal.returns
-returns c =
-    let given = c.args.self in
-    granted-over (inputs given.tables.now given.interties given.holders) _ _ _ _ _ _ given.few given.small c.requires given.sized given.weighed c.pre_ra_claims.array_long c.told-granted
-    c.share_out_each.ensures.1 c.pre_ra_claims.ensures
+returns c = c.grant.ensures _ c.pre_ra_claims.ensures
