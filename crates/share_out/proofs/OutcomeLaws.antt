@@ -1,12 +1,13 @@
 -- The answer and the output by cases: refused with 5, refused with 9, shared out.
 use Prim.Native.Nat.{ℕ, ◌%◌, ◌^◌, ◌≤◌, ◌<◌}
 use mathlib.Core.Path.{◌≡◌, sym, ap}
-use mathlib.Core.Bool.{true, false, not, ◌||◌}
+use mathlib.Core.Bool.{Bool, true, false, not, ◌&&◌, ◌||◌}
 use mathlib.Core.List.{List, ◌++◌}
 use native.Mathlib.Omega.{arith}
 use lib.ListN.{length, drop}
-use lib.Dec.{ltb, eqb}
+use lib.Dec.{ltb, leb, eqb}
 use borrow.Author.Tests.{ltb-false, eqb-true, not-false}
+use Rattle.std.proofs.lemmas.Bool.Decides.{nat_tests}
 use Rattle.base.specs.Words.{at, fill}
 use Rattle.base.specs.Answers.{refused, granted}
 use Rattle.base.proofs.ChoiceLaws.{or_left, or_right}
@@ -32,6 +33,12 @@ fit-lengths n weights output e =
       few = ltb-false 32 n (or_left (ltb 32 n) (ltb output n) rest);
       room = ltb-false output n (or_right (ltb 32 n) (ltb output n) rest);
     }
+
+-- refusal 5 as the code decides it: whether the lengths don't fit
+pub lengths-unfit : (claims weights output : List ℕ) {fit : Bool} →
+    fit ≡ (eqb (length claims) (length weights) && (leb (length claims) 32 && leb (length claims) (length output))) →
+    unfit_lengths (length claims) (length weights) (length output) ≡ not fit
+lengths-unfit claims weights output {fit} e = rw e (grind (arith, nat_tests))
 
 -- claims in range have a sum that 64 bits hold
 pub claimed-whole : {pool r : ℕ} {claims weights grants : List ℕ} → Accepted pool claims weights grants → r ≡ claimed claims % 2 ^ 64 → r ≡ claimed claims

@@ -4,35 +4,25 @@
 ghost use Rattle.std.specs.Prelude.{◌≡◌, ◌&&◌, ℕ, ◌*◌, ◌/◌, ◌≤◌, length, leb, ltb};
 ghost use Rattle.base.specs.Answers.{granted};
 ghost use Rattle.base.specs.Choice.{pick};
-ghost use Rattle.base.specs.Limits.{most_kw, most_claim_kw, most_load_share};
+ghost use Rattle.base.specs.Limits.{most_kw, most_claim_kw};
 ghost use Rattle.base.specs.Refused.{answer_of};
 ghost use Rattle.base.specs.Words.{at};
-ghost use Rattle.share_out.specs.Rule.{shared, unfit_lengths, unfit_numbers, shared_answer, share_out};
+ghost use Rattle.share_out.specs.Rule.{shared, unfit_numbers, shared_answer, share_out};
 ghost use Rattle.share_out.specs.Workers.Fit.{Covered, above_weights, raised, kw_parts, none, Weighable, Weighed, Rated};
 ghost use Rattle.share_out.specs.Workers.Fit.{Serving, Served, Completed, Ready, Accepted};
 
-use base::limits::{MOST_CLAIM_KW, MOST_HOLDERS, MOST_KW, MOST_LOAD_SHARE};
+use base::limits::{MOST_CLAIM_KW, MOST_HOLDERS, MOST_KW, MOST_LOAD_SHARE, WORD_VALUES};
 use base::refusals::Refusal;
 use base::{Granted, vectors};
 
 // The parts of a kW that a rate counts: 2 to the power 38.
 const PARTS: u64 = 274_877_906_944;
 
-// 2 to the power 32: the lower half of a weight is what it leaves, so that raising it never wraps.
-const WORD: u64 = 4_294_967_296;
-
 // 2 to the power 27, which every weight in range is below.
 const ABOVE_WEIGHTS: u64 = 134_217_728;
 
 // What raises the most that a weight can be to the last number below that power.
 const RAISE: u64 = ABOVE_WEIGHTS - 1 - MOST_LOAD_SHARE;
-
-// Refusal 5: whether lists of these lengths can't be shared out.
-fn unfit_lengths(claims: usize, weights: usize, output: usize) -> bool
-    ensures { result ≡ unfit_lengths claims weights output }
-{
-    (claims != weights) | ((MOST_HOLDERS < claims) | (output < claims))
-}
 
 // The bits of all claims put together, which no claim is above.
 fn claim_bits(claims: &[u64]) -> u64
@@ -41,12 +31,13 @@ fn claim_bits(claims: &[u64]) -> u64
     claims.iter().fold(0, |bits, claim| bits | *claim)
 }
 
-// The bits of a weight and of the weight raised so that one in range stays below 2 to the power 27.
+// The bits of a weight and of its lower half raised so that one in range stays below 2 to the power 27. (The lower half, so that
+// raising it never wraps.)
 #[tactic(auto, unfolding(crate::specs::Workers::Fit::raised))]
 fn raised(weight: u64) -> u64
     ensures { result ≡ raised weight }
 {
-    weight | (weight % WORD + RAISE)
+    weight | (weight % WORD_VALUES + RAISE)
 }
 
 // The bits of all raised weights put together, which none of them is above.
@@ -66,7 +57,8 @@ fn surely_in_range(claims: u64, weights: u64) -> bool
 }
 
 // Refusal 9: whether the pool, a claim or a weight is out of its range. Most lists are told by their bits alone. (Claims and
-// weights stay two lists, as C lends them: what is known of both differs from worker to worker, and stands in its record.)
+// weights stay two lists, as C lends them: what is known of both differs from worker to worker, and stands in its record. Not one
+// with step_5's `fit_numbers`: its limits are others, and it has no way by bits.)
 #[tactic(auto, using(crate::proofs::NumberLaws::numbers))]
 fn unfit_numbers(pool: u64, claims: &[u64], weights: &[u64]) -> bool
     requires { length weights.now ≡ length claims.now }
@@ -135,7 +127,8 @@ fn weight_after(part: u64, unmet: u64, weight: u64) -> u64
 }
 
 // Serves holders in turn, lowest number first, until the pool is empty: each gets what it wants, by its unmet claim and the
-// weight that it brings into W. Hands back the kW given. (Not inlined, for the speed of the loops over passes and holders.)
+// weight that it brings into W. Hands back the kW given. (Not inlined, for the speed of the loops over passes and holders. By place:
+// what a zip of `iter_mut` lends is lost to the proof.)
 #[inline(never)]
 fn serve_in_turn<F: Fn(u64, u64) -> u64>(
     left: u64,
@@ -253,7 +246,7 @@ pub fn share_out(
         (answer_of result ≡ made.answer) × (output.new ≡ made.output) }
 {
     let n = claims.len();
-    if unfit_lengths(n, weights.len(), output.len()) {
+    if !vectors::lengths_fit(n, weights.len(), output.len()) {
         return Err(Refusal::Room);
     }
     if unfit_numbers(pool, claims, weights) {
