@@ -4,10 +4,10 @@
 
 ghost use Rattle.std.specs.Prelude.{◌≡◌, ◌≤◌, true, ◌&&◌, ◌-◌, ◌*◌, ◌/◌, length, leb, eqb};
 ghost use Rattle.base.specs.Choice.{pick};
-ghost use Rattle.base.specs.Limits.{most_holders, most_held_kw, most_load_share};
+ghost use Rattle.base.specs.Limits.{most_holders};
 ghost use Rattle.step_5.specs.Round.{eligible, together, gross_remaining, newly_excluded, round_marks};
 ghost use Rattle.step_5.specs.Shares.{all_eligible, settled, step5_shares};
-ghost use Rattle.step_5.specs.Outcome.{fit_lengths, fit_numbers, step5};
+ghost use Rattle.step_5.specs.Outcome.{fit_numbers, step5};
 ghost use Rattle.step_5.specs.Workers.Fit.{Marks, Addends, Factors, Quota};
 
 use base::limits::{MOST_HELD_KW, MOST_HOLDERS, MOST_LOAD_SHARE};
@@ -20,14 +20,8 @@ const ELIGIBLE: u8 = 0;
 // And of one that gets none.
 const EXCLUDED: u8 = 1;
 
-// Whether lists of these lengths are alike, short enough, and leave room for the shares.
-fn fit_lengths(held: usize, loads: usize, shares: usize) -> bool
-    ensures { result ≡ fit_lengths held loads shares }
-{
-    (held == loads) & ((held <= MOST_HOLDERS) & (held <= shares))
-}
-
-// Whether T and every holder's numbers are within their ranges.
+// Whether T and every holder's numbers are within their ranges. (Not one with share_out's: its limits are others, and most of its
+// lists are told by their bits.)
 #[tactic(auto, using(crate::proofs::FitLaws::fits))]
 fn fit_numbers(total: u64, held: &[u64], loads: &[u64]) -> bool
     requires { length loads.now ≡ length held.now }
@@ -98,7 +92,8 @@ struct Holders<'a> {
 }
 
 impl Holders<'_> {
-    // Makes one round: excludes its holders together and hands back how many they are.
+    // Makes one round: excludes its holders together and hands back how many they are. (Held and load shares by place: what a zip of
+    // `iter_mut` lends is lost to the proof.)
     fn exclude_round(self, marks: &mut [u8]) -> u8
         requires { Marks (length self.held.now) marks.old }
         ensures { let total = self.entry.total in let held = self.entry.held.now in let loads = self.entry.loads.now in
@@ -127,7 +122,7 @@ impl Holders<'_> {
         }
     }
 
-    // Writes the shares of holders whose marks are settled.
+    // Writes the shares of holders whose marks are settled. (The other lists by place, as in a round.)
     fn write_shares(self, marks: &[u8], shares: &mut [u64])
         requires { (marks.now ≡ settled self.total self.held.now self.loads.now) × (length shares.old ≡ length self.held.now) }
         ensures { shares.new ≡ step5_shares self.entry.total self.entry.held.now self.entry.loads.now }
@@ -158,7 +153,7 @@ pub fn step_5_shares(total_kw: u64, held: &[u64], loads: &[u64], shares: &mut [u
         (result ≡ made.fit) × (shares.new ≡ made.output) }
 {
     let n = held.len();
-    if !fit_lengths(n, loads.len(), shares.len()) {
+    if !vectors::lengths_fit(n, loads.len(), shares.len()) {
         return false;
     }
     if !fit_numbers(total_kw, held, loads) {
