@@ -75,3 +75,6 @@ module _ (line : List ℕ) where
 
       pub line_known : (kind : CallKind) → Some kind ≡ kind_of name → (r : Result (Option Call) Fault) → r ≡ made kind (numbers_of (takes kind) others) → r ≡ line_of line
       line_known kind some r is = is ∙ sym (line-call ∙ rw (← some) refl)
+
+-- what a line is: a comment, blank, of no such name, or a call
+pub ruleset lines = (line-comment, line-blank, line-unknown, line_known)

@@ -38,12 +38,7 @@ call-put call place k kind l m is fit words size =
     ap (put_mid place k l) (words ∙ ap (λ (n : ℕ). n ∷ call.a ∷ call.b ∷ call.c ∷ call.kw ∷ 0 ∷ []) is)
     ∙ stored place k (words_in (Ok (Some call))) l size fit
 
--- a line with a call, once its words are written; and one without
-pub call-in : (line : Result (Option Call) Fault) (call : Call) (place r : ℕ) (l m : List ℕ) → line ≡ Ok (Some call) →
-    (r ≡ place + 6) × (m ≡ written place (words_in (Ok (Some call))) l) →
-    (r ≡ place + length (words_in line)) × (m ≡ written place (words_in line) l)
-call-in line call place r l m good put = rw good put
-
+-- a line without a call
 pub none_put : (line : Result (Option Call) Fault) (place : ℕ) (l : List ℕ) → words_in line ≡ [] → (place ≡ place + length (words_in line)) × (l ≡ written place (words_in line) l)
 none_put line place l none = (omega (arith, ap length none), sym (ap (λ (t : List ℕ). written place t l) none ∙ written_none place l))
 

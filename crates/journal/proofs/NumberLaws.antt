@@ -65,3 +65,6 @@ module _ (k : ℕ) (left : List (List ℕ)) (now : List ℕ) (whole : Result (Li
   reading-ends end none =
       let done : length now - k ≡ 0 = omega arith in
       sym (so_far ∙ rw (none, done) (ap Ok (append-nil (take k now) ∙ take_all k now end)))
+
+-- where that loop begins, and where it ends
+pub ruleset reading = (reading_begins, reading-lacks, reading-ends)

@@ -30,6 +30,15 @@ kind_of name =
     (pick (same name (ascii "move")) (Some Move)
     (pick (same name (ascii "lock")) (Some Lock) None)))))
 
+-- the name of the calls of a kind
+abbrev pub name : CallKind → List ℕ
+name Trade = ascii "trade"
+name Request = ascii "request"
+name Close = ascii "close"
+name Take = ascii "take"
+name Move = ascii "move"
+name Lock = ascii "lock"
+
 -- how many numbers a call of a kind has
 abbrev pub takes : CallKind → ℕ
 takes Close = 0

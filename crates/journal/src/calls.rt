@@ -1,14 +1,15 @@
 // A line read as a call.
 ghost use Rattle.std.specs.Prelude.{◌≡◌, ◌≤◌, length};
 ghost use Rattle.std.specs.Result.{result_map_both};
-ghost use Rattle.journal.specs.Calls.{kind_of, takes, numbers_of, call_with, made, line_of};
+ghost use Rattle.journal.specs.Calls.{name, kind_of, takes, numbers_of, call_with, made, line_of};
 ghost use Rattle.journal.specs.Workers.Left.{words_left};
 
 use crate::faults::Fault;
 use crate::words::{Words, words_of};
-use base::encoding::{CALL_WORDS, CallKind};
+use base::encoding::CallKind;
 
-// A call as read from a line: its kind, three numbers and its kW.
+// A call as read from a line: its kind, three numbers and its kW. (Not the `Call` of lists: its kW has 64 bits, and no number
+// of a journal has more than 32.)
 #[derive(Clone, Copy, Debug, PartialEq, Eq)]
 pub struct Call {
     pub kind: CallKind,
@@ -19,6 +20,7 @@ pub struct Call {
 }
 
 // Reads a line, without its line end. A blank line, and one that starts with #, has no call.
+#[tactic(auto, using(crate::proofs::CallLaws::lines))]
 pub(super) fn read_line(line: &[u8]) -> Result<Option<Call>, Fault>
     ensures { result ≡ line_of line.now }
 {
@@ -44,7 +46,9 @@ fn read_call(kind: CallKind, words: &mut Words) -> Result<Option<Call>, Fault>
     Ok(Some(call_with(kind, &numbers)))
 }
 
-// Reads as many numbers as there is room for, and no word more, or answers the fault of the first word that is wrong.
+// Reads as many numbers as there is room for, and no word more, or answers the fault of the first word that is wrong. (Not one
+// with sheet_table's: its faults have columns.)
+#[tactic(auto, using(crate::proofs::NumberLaws::reading))]
 fn read_numbers(words: &mut Words, numbers: &mut [u32]) -> Result<(), Fault>
     ensures { result_map_both (λ _. numbers.new) (λ fault. fault) result ≡ numbers_of (length numbers.old) (words_left words.old) }
 {
@@ -93,23 +97,36 @@ fn call_with(kind: CallKind, n: &[u32; 4]) -> Call
     }
 }
 
-// The kind of the call that a name names. (A match over the name's bytes was tried: it splits into 29 goals.)
-fn kind_of(name: &[u8]) -> Option<CallKind>
-    ensures { result ≡ kind_of name.now }
+// The name of the calls of a kind.
+fn name(kind: CallKind) -> &'static [u8]
+    ensures { result.now ≡ name kind }
 {
-    if text::same(name, b"trade") {
-        Some(CallKind::Trade)
-    } else if text::same(name, b"request") {
-        Some(CallKind::Request)
-    } else if text::same(name, b"close") {
-        Some(CallKind::Close)
-    } else if text::same(name, b"take") {
-        Some(CallKind::Take)
-    } else if text::same(name, b"move") {
-        Some(CallKind::Move)
-    } else if text::same(name, b"lock") {
-        Some(CallKind::Lock)
-    } else {
-        None
+    match kind {
+        CallKind::Trade => b"trade",
+        CallKind::Request => b"request",
+        CallKind::Close => b"close",
+        CallKind::Take => b"take",
+        CallKind::Move => b"move",
+        CallKind::Lock => b"lock",
     }
+}
+
+// The kinds of call.
+const KINDS: [CallKind; 6] = [
+    CallKind::Trade,
+    CallKind::Request,
+    CallKind::Close,
+    CallKind::Take,
+    CallKind::Move,
+    CallKind::Lock,
+];
+
+// The kind of the call that a word names.
+fn kind_of(word: &[u8]) -> Option<CallKind>
+    ensures { result ≡ kind_of word.now }
+{
+    KINDS
+        .iter()
+        .find(|kind| text::same(word, name(**kind)))
+        .copied()
 }

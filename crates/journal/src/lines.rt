@@ -45,7 +45,7 @@ fn count_call(line: &[u8], count: usize, room: usize) -> Result<usize, Fault>
     }
 }
 
-// Writes the words of the calls of all lines.
+// Writes the words of the calls of all lines. (By place: of `as_chunks_mut` nothing is said of what the slice ends as.)
 pub(super) fn put_calls(text: &[u8], calls: &mut [u32])
     requires { length (encoded_calls (lines_of text.now)) ≤ length calls.old }
     ensures { calls.new ≡ written 0 (encoded_calls (lines_of text.now)) calls.old }

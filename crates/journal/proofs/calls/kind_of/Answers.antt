@@ -1,32 +1,14 @@
--- `kind_of` meets its contract, name by name.
-use Rattle.journal.specs.Calls.{kind_of}
-use Rattle.base.proofs.ChoiceLaws.{choices}
+-- `kind_of` meets its contract: it finds the first kind of that name.
+use Rattle.base.proofs.Prelude.{[], ◌∷◌, ◌∙◌, rules}
+use Rattle.std.proofs.lemmas.Iterator.{YieldsList-from_slice}
+use Rattle.std.proofs.lemmas.Iterator.Search.{find_from_yields_List}
+use Rattle.base.specs.declared.encoding.CallKind.TheVariants.{Trade, Request, Close, Take, Move, Lock}
+use Rattle.text.specs.Ascii.{same}
+use Rattle.journal.specs.Calls.{name, kind_of}
 use Rattle.journal.proofs.calls.kind_of.Goals as goal
 
-pub returns-then-same : goal.returns-then-same
+pub returns : goal.returns
 unfolding kind_of
-returns-then-same c = search choices depth 8
-
-pub returns-then-same-2 : goal.returns-then-same-2
-unfolding kind_of
-returns-then-same-2 c = search choices depth 8
-
-pub returns-then-same-3 : goal.returns-then-same-3
-unfolding kind_of
-returns-then-same-3 c = search choices depth 8
-
-pub returns-then-same-4 : goal.returns-then-same-4
-unfolding kind_of
-returns-then-same-4 c = search choices depth 8
-
-pub returns-then-same-5 : goal.returns-then-same-5
-unfolding kind_of
-returns-then-same-5 c = search choices depth 8
-
-pub returns-then-same-6 : goal.returns-then-same-6
-unfolding kind_of
-returns-then-same-6 c = search choices depth 8
-
-pub returns-else-same-6 : goal.returns-else-same-6
-unfolding kind_of
-returns-else-same-6 c = search choices depth 8
+returns c =
+    let found = find_from_yields_List (λ kind. same c.args.word.now (name kind)) _ _ c.find.result c.find.ensures.ran (YieldsList-from_slice (Trade ∷ Request ∷ Close ∷ Take ∷ Move ∷ Lock ∷ []) cc) (λ x b q k. search rules) in
+    c.copied.ensures ∙ found

@@ -1,14 +1,11 @@
 use Rattle.base.proofs.Prelude.{◌≡◌, sym, ◌∙◌, length, rules}
 use Rattle.std.specs.Prelude.{Err}
 use Rattle.journal.specs.Faults.{fault_of}
-use Rattle.journal.proofs.NumberLaws.{reading_begins, reading-lacks, reading-stops, reading-turn, reading-over, reading-ends}
+use Rattle.journal.proofs.NumberLaws.{reading-turn, reading-stops, reading-over}
 use Rattle.journal.proofs.calls.read_numbers.Goals as goal
 
-pub loop-number-init : goal.loop-number-init
-loop-number-init c = search (rules, reading_begins)
-
-pub returns-in_default : goal.returns-in_default
-returns-in_default c = search (rules, reading-lacks)
+pub loop-number-preserved : goal.loop-number-preserved
+loop-number-preserved c = search (rules, reading-turn)
 
 pub returns-in_err-number : goal.returns-in_err-number
 returns-in_err-number c =
@@ -16,13 +13,7 @@ returns-in_err-number c =
     let size : length c.args.numbers.now ≡ length c.loop-number.numbers = search rules in
     rw (e, size) (reading-stops c.loop-number.number-index _ c.loop-number.numbers _ c.loop-number.invariant _ _ (rw c.in-Some.is at c.next.ensures.steps) (search rules) c.in_err-number.field-0.0 (sym c.in_err-number.was ∙ c.read_number.ensures))
 
-pub loop-number-preserved : goal.loop-number-preserved
-loop-number-preserved c = search (rules, reading-turn)
-
 pub returns-in-Some-next : goal.returns-in-Some-next
 returns-in-Some-next c =
     let size : length c.args.numbers.now ≡ length c.loop-number.numbers = search rules in
     rw size (reading-over c.loop-number.number-index _ c.loop-number.numbers _ c.loop-number.invariant _ _ (rw c.in-Some-next.is at c.next-2.ensures.steps) (search rules))
-
-pub returns-in-None : goal.returns-in-None
-returns-in-None c = search (rules, reading-ends)
