@@ -15,7 +15,7 @@ ghost use Rattle.carrying.specs.Workers.Draft.{places, with_record, DraftOf, Add
 use crate::key;
 use base::kinds::Kind;
 use base::limits::{MOST_PAIRS, MOST_RANK, MOST_RECORDS, RECORD_BYTES, SHEET_HEADER_BYTES};
-use sheet_keys::key::HOLDERS;
+use sheet_keys::key::{HOLDERS, Key};
 use sheet_records::reader::Record;
 use sheet_records::{reader, writing};
 use state::layout;
@@ -82,7 +82,7 @@ impl Draft {
             key::goes_on(line.key),
             key::next_key(line.key),
             line.kw,
-            sheet_keys::key::holder(line.key) as usize,
+            Key::from(line.key).holder as usize,
             key::new_use_rank(line.key),
         );
     }
@@ -110,8 +110,13 @@ impl Draft {
         }
         let term = state::pair_word(state, layout::TERM, holder, intertie);
         let rank = self.ranks[holder as usize] + 1;
-        let kind = Kind::NewUseCommitment as u32;
-        let key = sheet_keys::key::pack(kind, holder, intertie, rank, term);
+        let key = u32::from(Key {
+            kind: Kind::NewUseCommitment as u32,
+            holder,
+            intertie,
+            rank,
+            years: term,
+        });
         self.put(true, key, locked, holder as usize, rank);
     }
 

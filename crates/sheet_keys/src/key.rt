@@ -30,48 +30,44 @@ pub const RANK_MASK: u32 = 255;
 
 pub const YEARS_MASK: u32 = 255;
 
-// The kind of a key.
-pub fn kind(key: u32) -> u32
-    ensures { result ≡ kind_of key }
-{
-    key & KIND_MASK
+// A key's fields.
+#[derive(Clone, Copy, Debug, PartialEq, Eq)]
+pub struct Key {
+    pub kind: u32,
+    pub holder: u32,
+    pub intertie: u32,
+    pub rank: u32,
+    pub years: u32,
 }
 
-// The holder that a key names.
-pub fn holder(key: u32) -> u32
-    ensures { result ≡ holder_of key }
-{
-    (key >> HOLDER_SHIFT) & HOLDER_MASK
-}
+// The fields of a key.
+impl From<u32> for Key {
+    ghost from_gives = { λ word key. (key.kind ≡ kind_of word)
+        × (key.holder ≡ holder_of word)
+        × (key.intertie ≡ intertie_of word)
+        × (key.rank ≡ rank_of word)
+        × (key.years ≡ years_of word) };
 
-// The intertie that a key names.
-pub fn intertie(key: u32) -> u32
-    ensures { result ≡ intertie_of key }
-{
-    (key >> INTERTIE_SHIFT) & INTERTIE_MASK
-}
-
-// The rank of a key.
-pub fn rank(key: u32) -> u32
-    ensures { result ≡ rank_of key }
-{
-    (key >> RANK_SHIFT) & RANK_MASK
-}
-
-// The years of a key.
-pub fn years(key: u32) -> u32
-    ensures { result ≡ years_of key }
-{
-    key >> YEARS_SHIFT
+    fn from(word: u32) -> Key {
+        Key {
+            kind: word & KIND_MASK,
+            holder: (word >> HOLDER_SHIFT) & HOLDER_MASK,
+            intertie: (word >> INTERTIE_SHIFT) & INTERTIE_MASK,
+            rank: (word >> RANK_SHIFT) & RANK_MASK,
+            years: word >> YEARS_SHIFT,
+        }
+    }
 }
 
 // A key from its fields, each cut to its width.
-pub fn pack(kind: u32, holder: u32, intertie: u32, rank: u32, years: u32) -> u32
-    ensures { result ≡ cut_key kind holder intertie rank years }
-{
-    (kind & KIND_MASK)
-        | ((holder & HOLDER_MASK) << HOLDER_SHIFT)
-        | ((intertie & INTERTIE_MASK) << INTERTIE_SHIFT)
-        | ((rank & RANK_MASK) << RANK_SHIFT)
-        | ((years & YEARS_MASK) << YEARS_SHIFT)
+impl From<Key> for u32 {
+    ghost from_gives = { λ key word. word ≡ cut_key key.kind key.holder key.intertie key.rank key.years };
+
+    fn from(key: Key) -> u32 {
+        (key.kind & KIND_MASK)
+            | ((key.holder & HOLDER_MASK) << HOLDER_SHIFT)
+            | ((key.intertie & INTERTIE_MASK) << INTERTIE_SHIFT)
+            | ((key.rank & RANK_MASK) << RANK_SHIFT)
+            | ((key.years & YEARS_MASK) << YEARS_SHIFT)
+    }
 }

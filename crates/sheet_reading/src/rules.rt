@@ -9,7 +9,7 @@ use base::kinds::Kind;
 use base::limits;
 use base::limits::MOST_YEARS;
 use base::numbered::Unnamed;
-use sheet_keys::key;
+use sheet_keys::key::Key;
 use sheet_records::reader::Record;
 use sheet_records::{reader, words};
 
@@ -96,15 +96,12 @@ fn field_stands(named: bool, in_range: bool, field: u32) -> bool
 fn record_stands(entry: Record, interties: u32, holders: u32) -> bool
     ensures { result ≡ record_stands interties holders entry.key entry.kw }
 {
-    let rule = rule_of(key::kind(entry.key));
-    let holder = key::holder(entry.key);
-    let intertie = key::intertie(entry.key);
-    let rank = key::rank(entry.key);
-    let years = key::years(entry.key);
-    field_stands(rule.holder, holder < holders, holder)
-        & field_stands(rule.intertie, intertie < interties, intertie)
-        & field_stands(rule.rank, 1 <= rank, rank)
-        & field_stands(rule.years, (1 <= years) & (years <= MOST_YEARS), years)
+    let key = Key::from(entry.key);
+    let rule = rule_of(key.kind);
+    field_stands(rule.holder, key.holder < holders, key.holder)
+        & field_stands(rule.intertie, key.intertie < interties, key.intertie)
+        & field_stands(rule.rank, 1 <= key.rank, key.rank)
+        & field_stands(rule.years, (1..=MOST_YEARS).contains(&key.years), key.years)
         & (rule.least <= entry.kw)
         & (entry.kw <= rule.most)
 }

@@ -12,6 +12,7 @@ use base::kinds::Kind;
 use base::limits;
 use base::limits::MOST_RECORDS;
 use sheet_keys::key;
+use sheet_keys::key::Key;
 use sheet_records::reader;
 
 // A holder's row has a slot for each intertie that a key can name, or for each rank.
@@ -78,49 +79,44 @@ fn either(test: bool, one: u32, other: u32) -> u32
 }
 
 // The slot of a record by its kind, holder, intertie and rank.
-fn slot(kind: u32, holder: u32, intertie: u32, rank: u32) -> u32
-    requires { (holder < key_holders) × (intertie < key_interties) × (rank < key_ranks) }
-    ensures { result ≡ slot kind holder intertie rank }
+fn slot(key: Key) -> u32
+    requires { (key.holder < key_holders) × (key.intertie < key_interties) × (key.rank < key_ranks) }
+    ensures { result ≡ slot key.kind key.holder key.intertie key.rank }
 {
     let new_use = either(
-        kind == Kind::NewUseCommitment as u32,
-        NEW_USE as u32 + HOLDER_RANKS as u32 * holder + rank,
+        key.kind == Kind::NewUseCommitment as u32,
+        NEW_USE as u32 + HOLDER_RANKS as u32 * key.holder + key.rank,
         OTHER,
     );
     let pre_ra = either(
-        kind == Kind::PreRaCommitment as u32,
-        PRE_RA as u32 + HOLDER_INTERTIES as u32 * holder + intertie,
+        key.kind == Kind::PreRaCommitment as u32,
+        PRE_RA as u32 + HOLDER_INTERTIES as u32 * key.holder + key.intertie,
         new_use,
     );
     let existing = either(
-        kind == Kind::ExistingContract as u32,
-        EXISTING as u32 + HOLDER_INTERTIES as u32 * holder + intertie,
+        key.kind == Kind::ExistingContract as u32,
+        EXISTING as u32 + HOLDER_INTERTIES as u32 * key.holder + key.intertie,
         pre_ra,
     );
-    let by_holder = either(MOST_HOLDERS <= holder, OTHER, existing);
+    let by_holder = either(MOST_HOLDERS <= key.holder, OTHER, existing);
     let load_share = either(
-        kind == Kind::LoadShare as u32,
-        LOAD_SHARES as u32 + holder,
+        key.kind == Kind::LoadShare as u32,
+        LOAD_SHARES as u32 + key.holder,
         by_holder,
     );
     let outside = either(
-        kind == Kind::OutsideRight as u32,
-        OUTSIDE as u32 + intertie,
+        key.kind == Kind::OutsideRight as u32,
+        OUTSIDE as u32 + key.intertie,
         load_share,
     );
-    either(kind == Kind::Limit as u32, intertie, outside)
+    either(key.kind == Kind::Limit as u32, key.intertie, outside)
 }
 
 // The slot of a key.
 fn slot_of(key: u32) -> u32
     ensures { result ≡ slot_of key }
 {
-    slot(
-        key::kind(key),
-        key::holder(key),
-        key::intertie(key),
-        key::rank(key),
-    )
+    slot(Key::from(key))
 }
 
 // The slot of each record.
@@ -162,6 +158,6 @@ pub(crate) fn place_records(sheet: &[u8], found: &[u32; MOST_RECORDS], interties
     ensures { interties.new ≡ intertie_table sheet.now }
 {
     for (place, record) in reader::records(sheet).enumerate() {
-        interties[found[place] as usize] += key::intertie(record.key) as u16;
+        interties[found[place] as usize] += Key::from(record.key).intertie as u16;
     }
 }

@@ -10,6 +10,7 @@ ghost use Rattle.sheet_table.specs.Workers.Steps.{fields_past_kind, entry_of};
 use crate::faults::Fault;
 use crate::kinds;
 use sheet_keys::key;
+use sheet_keys::key::Key;
 use sheet_records::words::MOST_WORD;
 use text::{NumberError, Pieces};
 
@@ -101,12 +102,12 @@ fn read_numbers(
 }
 
 // A key from fields within their widths.
-fn pack(kind: u32, holder: u32, intertie: u32, rank: u32, years: u32) -> u32
-    requires { (kind < key_kinds) × (holder < key_holders) × (intertie < key_interties)
-        × (rank < key_ranks) × (years < key_years) }
-    ensures { result ≡ key_from kind holder intertie rank years }
+fn pack(key: Key) -> u32
+    requires { (key.kind < key_kinds) × (key.holder < key_holders) × (key.intertie < key_interties)
+        × (key.rank < key_ranks) × (key.years < key_years) }
+    ensures { result ≡ key_from key.kind key.holder key.intertie key.rank key.years }
 {
-    key::pack(kind, holder, intertie, rank, years)
+    u32::from(key)
 }
 
 // The first line: I and H.
@@ -149,7 +150,13 @@ fn read_entry_of(kind: u32, fields: &mut Pieces) -> Result<Entry, Flaw>
     let mut values = [0u32; FIELDS];
     read_numbers(fields, 2, &mosts, &mut values)?;
     Ok(Entry {
-        key: pack(kind, values[0], values[1], values[2], values[3]),
+        key: pack(Key {
+            kind,
+            holder: values[0],
+            intertie: values[1],
+            rank: values[2],
+            years: values[3],
+        }),
         kw: values[4],
     })
 }

@@ -11,7 +11,7 @@ ghost use Rattle.sheet_table.specs.Table.{row_of, rows_of};
 
 use crate::{TABLE_BYTES, kinds};
 use arrayvec::ArrayVec;
-use sheet_keys::key;
+use sheet_keys::key::Key;
 use sheet_records::reader;
 use text::put_line;
 
@@ -29,21 +29,21 @@ pub(crate) fn put_sizes(interties: u32, holders: u32, table: &mut ArrayVec<u8, T
 fn put_row(key: u32, kw: u32, table: &mut ArrayVec<u8, TABLE_BYTES>)
     ensures { table.new.items ≡ appended table_bytes (row_of key kw) table.old.items }
 {
-    let kind = key::kind(key);
+    let key = Key::from(key);
     let figures = [
-        key::holder(key) as u64,
-        key::intertie(key) as u64,
-        key::rank(key) as u64,
-        key::years(key) as u64,
+        key.holder as u64,
+        key.intertie as u64,
+        key.rank as u64,
+        key.years as u64,
         kw as u64,
     ];
-    let name = kinds::name_of(kind);
+    let name = kinds::name_of(key.kind);
     if !name.is_empty() {
         put_line(name, b',', &figures, table);
         return;
     }
     let mut digits = [0u8; 20];
-    let count = io::decimal(kind as u64, &mut digits);
+    let count = io::decimal(key.kind as u64, &mut digits);
     put_line(&digits[..count], b',', &figures, table);
 }
 

@@ -5,6 +5,6 @@ use Rattle.sheet_table.proofs.fields.pack.Goals as goal
 
 pub returns : goal.returns
 returns c =
-    let a = c.args in
-    c.pack.ensures
-    ∙ uncut a.kind a.holder a.intertie a.rank a.years (omega arith) (omega arith) (omega arith) (omega arith) (omega arith)
+    let k = c.args.key in
+    c.from.ensures
+    ∙ uncut k.kind k.holder k.intertie k.rank k.years (omega arith) (omega arith) (omega arith) (omega arith) (omega arith)

@@ -5,14 +5,14 @@ use Rattle.sheet_table.proofs.rows.put_row.Goals as goal
 
 pub returns-then-not-is_empty : goal.returns-then-not-is_empty
 returns-then-not-is_empty c =
-    row_put c.args.key c.args.kw _ _ _ _ _ _ c.kind-kind.ensures (label-name _ _ c.name_of-name.ensures (search rules))
-    c.holder.ensures c.intertie.ensures c.rank.ensures c.years.ensures
+    row_put c.args.key c.args.kw _ _ _ _ _ _ c.from-key.ensures.0 (label-name _ _ c.name_of-name.ensures (search rules))
+    c.from-key.ensures.1 c.from-key.ensures.2 c.from-key.ensures.3 c.from-key.ensures.4
     _ _ c.put_line.ensures
 
 pub returns : goal.returns
 returns c =
     let spelled = c.decimal-count.ensures in
-    row_put c.args.key c.args.kw _ _ _ _ _ _ c.kind-kind.ensures
+    row_put c.args.key c.args.kw _ _ _ _ _ _ c.from-key.ensures.0
     (label-number _ _ c.name_of-name.ensures (search rules) _ _ (search rules) spelled.len spelled.digits)
-    c.holder.ensures c.intertie.ensures c.rank.ensures c.years.ensures
+    c.from-key.ensures.1 c.from-key.ensures.2 c.from-key.ensures.3 c.from-key.ensures.4
     _ _ c.put_line-2.ensures

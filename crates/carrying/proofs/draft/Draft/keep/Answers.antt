@@ -3,4 +3,4 @@ use Rattle.carrying.proofs.DraftLaws.{record_drafted}
 use Rattle.carrying.proofs.draft.Draft.keep.Goals as goal
 
 pub returns : goal.returns
-returns c = record_drafted _ _ _ c.goes_on.ensures _ _ _ c.holder.ensures c.next_key.ensures c.new_use_rank.ensures _ _ c.put.ensures
+returns c = record_drafted _ _ _ c.goes_on.ensures _ _ _ c.from.ensures.1 c.next_key.ensures c.new_use_rank.ensures _ _ c.put.ensures
