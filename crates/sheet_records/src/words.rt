@@ -7,9 +7,6 @@ ghost use Rattle.sheet_records.specs.Refusal.{bad_length};
 
 use base::limits::{MOST_RECORDS, RECORD_BYTES, SHEET_HEADER_BYTES};
 
-// The most that a word says.
-pub const MOST_WORD: u32 = 4_294_967_295;
-
 // The bytes of a word.
 pub const WORD_BYTES: usize = 4;
 
@@ -49,7 +46,7 @@ pub fn bad_length(sheet: &[u8]) -> bool
     sheet.len() != SHEET_HEADER_BYTES + RECORD_BYTES * count
 }
 
-// A word of the header, 0 where the sheet is under 12 bytes.
+// A word of the header, 0 where the sheet is under 12 bytes. (0 and no Option: the definitions read 0 past the end, `at`.)
 fn header_word(sheet: &[u8], from: usize) -> u32
     requires { from + word_size ≤ sheet_header_bytes }
     ensures { let s = sheet.now in result ≡ pick (ltb (length s) sheet_header_bytes) 0 (word_at s from) }

@@ -8,7 +8,8 @@ ghost use Rattle.sheet_records.specs.Bytes.{word_bytes, bytes_of, sheet_bytes, S
 use crate::words::{COUNT_AT, HOLDERS_AT, INTERTIES_AT, WORD_BYTES};
 use base::limits::{MOST_RECORDS, RECORD_BYTES, SHEET_HEADER_BYTES};
 
-// Writes a word from a byte on, its lowest byte first.
+// Writes a word from a byte on, its lowest byte first. (By place, here and below: of `as_chunks_mut` nothing is said of what the
+// slice ends as.)
 fn write_word(word: u32, from: usize, output: &mut [u8])
     requires { from + word_size ≤ length output.old }
     ensures { output.new ≡ sets output.old from (word_bytes word) }

@@ -11,7 +11,6 @@ use crate::faults::Fault;
 use crate::kinds;
 use sheet_keys::key;
 use sheet_keys::key::Key;
-use sheet_records::words::MOST_WORD;
 use text::{NumberError, Pieces};
 
 // The fields of a record after its kind.
@@ -116,7 +115,7 @@ pub(crate) fn read_sizes(line: &[u8]) -> Result<Sizes, Flaw>
 {
     let mut fields = text::split(line, b',');
     let mut sizes = [0u32; 2];
-    read_numbers(&mut fields, 1, &[MOST_WORD, MOST_WORD], &mut sizes)?;
+    read_numbers(&mut fields, 1, &[u32::MAX, u32::MAX], &mut sizes)?;
     Ok(Sizes {
         interties: sizes[0],
         holders: sizes[1],
@@ -145,7 +144,7 @@ fn read_entry_of(kind: u32, fields: &mut Pieces) -> Result<Entry, Flaw>
         key::INTERTIE_MASK,
         key::RANK_MASK,
         key::YEARS_MASK,
-        MOST_WORD,
+        u32::MAX,
     ];
     let mut values = [0u32; FIELDS];
     read_numbers(fields, 2, &mosts, &mut values)?;
