@@ -1,13 +1,19 @@
 -- What the conditions that calls share say where they fail.
-use Prim.Native.Nat.{ℕ, ◌≤◌, ◌<◌}
-use mathlib.Core.Path.{◌≡◌, refl}
+use Prim.Native.Nat.{ℕ, zero, suc, ◌≤◌, ◌<◌}
+use mathlib.Core.Path.{◌≡◌, refl, ap}
 use mathlib.Core.Bool.{Bool, true, false, not, ◌&&◌, ◌||◌}
-use mathlib.Core.List.{List}
+use mathlib.Core.List.{List, [], ◌∷◌}
 use mathlib.Core.Logic.{◌⊎◌, inl, inr}
 use lib.Dec.{leb, eqb}
-use borrow.Author.Tests.{leb-true, leb-false, eqb-true, not-false}
+use native.Mathlib.Omega.{arith}
+use borrow.Author.Tests.{le-leb, lt-leb, leb-true, leb-false, ne_eqb, eqb-true, not-false}
+use Rattle.std.specs.List.{list_any}
 use Rattle.base.proofs.ChoiceLaws.{and_left, and_right}
 use Rattle.state.specs.Layout.{interties, holders}
+use Rattle.base.specs.Stage.{number_of}
+use Rattle.base.specs.declared.stages.Stage.{Stage}
+use Rattle.base.specs.declared.stages.Stage.TheVariants.{Trading, FirstRequests, SecondRequests}
+use Rattle.call.specs.InStage.{is_in}
 use Rattle.call.specs.Tests.{no_holder, no_intertie, bad_kw, bad_term}
 
 -- the one stage, or one of the two, in which a call may be made
@@ -43,3 +49,26 @@ kw-in-range kw e = in-range kw 20000000 e
 
 pub term-in-range : (years : ℕ) → bad_term years ≡ false → (1 ≤ years) × (years ≤ 30)
 term-in-range years e = in-range years 30 e
+
+-- a test of one more that is none
+either_none : (a : Bool) → a || false ≡ a
+either_none true = refl
+either_none false = refl
+
+-- whether a stage is one of some, by a test of each
+pub any_is_in : (n : ℕ) (stages : List Stage) → list_any (λ (stage : Stage). eqb n (number_of stage)) stages ≡ is_in n stages
+any_is_in n [] = refl
+any_is_in n (stage ∷ []) = either_none (eqb n (number_of stage))
+any_is_in n (stage ∷ next ∷ rest) = ap (λ t. eqb n (number_of stage) || t) (any_is_in n (next ∷ rest))
+
+-- one of three stages in a row
+past_three : (n : ℕ) → 3 < n → is_in n (Trading ∷ FirstRequests ∷ SecondRequests ∷ []) ≡ (leb 1 n && leb n 3)
+past_three n l =
+    rw (ne_eqb n 1 (λ e. omega arith), ne_eqb n 2 (λ e. omega arith), ne_eqb n 3 (λ e. omega arith), le-leb 1 n (omega arith), lt-leb n 3 l) refl
+
+pub in_three : (n : ℕ) → is_in n (Trading ∷ FirstRequests ∷ SecondRequests ∷ []) ≡ (leb 1 n && leb n 3)
+in_three zero = refl
+in_three (suc zero) = refl
+in_three (suc (suc zero)) = refl
+in_three (suc (suc (suc zero))) = refl
+in_three (suc (suc (suc (suc n)))) = past_three (suc (suc (suc (suc n)))) (omega arith)

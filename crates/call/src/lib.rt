@@ -1,12 +1,12 @@
 // What the calls of the year share: the tests of the table of refusals, each tried in its turn.
 #![tactic(auto)]
 
-ghost use Rattle.std.specs.Prelude.{◌≡◌, not, eqb};
-ghost use Rattle.base.specs.Stages.{open_stage};
+ghost use Rattle.std.specs.Prelude.{◌≡◌, eqb};
 ghost use Rattle.state.specs.Layout.{stage_of};
 ghost use Rattle.base.specs.Refused.{number_of as refusal_number, number_in};
 ghost use Rattle.base.specs.Stage.{number_of};
 ghost use Rattle.call.specs.Outcome.{whenever};
+ghost use Rattle.call.specs.InStage.{is_in};
 ghost use Rattle.call.specs.Tests.{open_refusal, no_holder, no_intertie, no_pair, unfit_parties, bad_kw, bad_term};
 
 use base::limits;
@@ -35,7 +35,15 @@ pub fn is_stage(state: &[u32], stage: Stage) -> bool
     state::stage(state) == stage.number()
 }
 
-// Refusal 8: whether the state has no such holder.
+// Whether a state is of one of the stages.
+pub fn is_in(state: &[u32], stages: &[Stage]) -> bool
+    ensures { result ≡ is_in (stage_of state.now) stages.now }
+{
+    stages.iter().any(|stage| is_stage(state, *stage))
+}
+
+// Refusal 8: whether the state has no such holder. (This and `no_intertie` are two: with the count as a parameter each caller
+// would read it.)
 pub fn no_holder(state: &[u32], holder: u32) -> bool
     ensures { result ≡ no_holder state.now holder }
 {
@@ -67,12 +75,12 @@ pub fn unfit_parties(state: &[u32], first: u32, second: u32) -> bool
 pub fn bad_kw(kw: u64) -> bool
     ensures { result ≡ bad_kw kw }
 {
-    !((1 <= kw) & (kw <= limits::MOST_KW))
+    !(1..=limits::MOST_KW).contains(&kw)
 }
 
 // Refusal 9: whether a term is not 1 to 30 years.
 pub fn bad_term(years: u32) -> bool
     ensures { result ≡ bad_term years }
 {
-    !((1 <= years) & (years <= limits::MOST_YEARS))
+    !(1..=limits::MOST_YEARS).contains(&years)
 }

@@ -1,11 +1,10 @@
 // Placed kW in their holder's hands: moved to another holder, or locked for years to come (docs/RULES.md, "Calls of the year").
 #![tactic(auto)]
 
-ghost use Rattle.std.specs.Prelude.{◌≡◌, not, ◌||◌, ◌-◌, ◌≤◌, ltb, eqb};
+ghost use Rattle.std.specs.Prelude.{◌≡◌, ◌||◌, ◌-◌, ◌≤◌, ltb};
 ghost use Rattle.base.specs.Limits.{most_interties, most_kw};
 ghost use Rattle.base.specs.Refused.{number_in, answer_of};
-ghost use Rattle.base.specs.Stages.{second_requests_stage, open_stage};
-ghost use Rattle.state.specs.Layout.{interties, stage_of, placed_of, locked_of};
+ghost use Rattle.state.specs.Layout.{interties, placed_of, locked_of};
 ghost use Rattle.call.specs.Tests.{no_intertie, unfit_parties, bad_kw, bad_term};
 ghost use Rattle.holding.specs.Move.{move_refusal, move};
 ghost use Rattle.holding.specs.Lock.{past_three_quarters, lock_refusal, lock};
@@ -60,13 +59,15 @@ fn check_move(state: &[u32], giver: u32, taker: u32, intertie: u32, kw: u64) -> 
     ensures { number_in result ≡ move_refusal state.now giver taker intertie kw }
 {
     orderly::check_state(state)?;
-    call::refuse_if(no_moves(state), Refusal::Stage)?;
+    let movable = call::is_in(state, &[Stage::SecondRequests, Stage::Open]);
+    call::refuse_if(!movable, Refusal::Stage)?;
     call::refuse_if(unfit_move(state, giver, taker, intertie), Refusal::NoSuch)?;
     call::refuse_if(call::bad_kw(kw), Refusal::Range)?;
     call::refuse_if(over_movable(state, giver, intertie, kw), Refusal::TooMuch)
 }
 
-// The first refusal that applies to a lock.
+// The first refusal that applies to a lock. (State, holder, intertie and kW one by one, as C passes them: each test here, of a
+// move too, takes only those that it tests, as its definition does.)
 #[tactic(auto, using(call::proofs::LadderLaws::passes, call::proofs::LadderLaws::stops), unfolding(crate::specs::Lock::lock_refusal))]
 fn check_lock(state: &[u32], holder: u32, intertie: u32, kw: u64, term: u32) -> Result<(), Refusal>
     ensures { number_in result ≡ lock_refusal state.now holder intertie kw term }
@@ -77,13 +78,6 @@ fn check_lock(state: &[u32], holder: u32, intertie: u32, kw: u64, term: u32) -> 
     call::refuse_if(unfit_lock(kw, term), Refusal::Range)?;
     call::refuse_if(over_placed(state, holder, intertie, kw), Refusal::TooMuch)?;
     call::refuse_if(barred(state, holder, intertie, kw), Refusal::Lock)
-}
-
-// Refusal 7: whether the stage has no moves.
-fn no_moves(state: &[u32]) -> bool
-    ensures { let stage = stage_of state.now in result ≡ not (eqb stage second_requests_stage || eqb stage open_stage) }
-{
-    !(call::is_stage(state, Stage::SecondRequests) | call::is_stage(state, Stage::Open))
 }
 
 // Refusal 8: whether the parties of a move are unfit, or there is no such intertie.

@@ -6,7 +6,7 @@ use mathlib.Core.Logic.{◌⊎◌}
 use native.Mathlib.Omega.{arith}
 use Rattle.base.specs.Sums.{sum_to}
 use Rattle.base.specs.Words.{at}
-use Rattle.state.specs.Layout.{place, interties, holders, stage_of, unassigned_of, unplaced_of, sellers_of, placed_of, taken_of, locked_of, pending_of, on_intertie, of_holder}
+use Rattle.state.specs.Layout.{place, interties, holders, stage_of, unassigned_of, unplaced_of, sellers_of, locked_of, pending_of, of_holder}
 use Rattle.state.proofs.FrameLaws.{SameRows, SameOpening, same-within, same-interties, same-holders, same-on-intertie, same-of-holder}
 use Rattle.state.proofs.OrderlyLaws.{Orderly}
 
@@ -50,20 +50,11 @@ module _ {s t : List ℕ} (o : Orderly s) (same : SameOthers s t) where
       ap (λ (n : ℕ). sum_to n (λ h. at t (place (f + h) i))) (holders-same same)
       ∙ same-on-intertie f (holders s) i rows low high o.holders-most l
 
-  -- per intertie: unassigned, and all placed and all taken
+  -- what an intertie has unassigned
   pub unassigned-same : (i : ℕ) → i < interties s → unassigned_of t i ≡ unassigned_of s i
   unassigned-same i l = early same 104 i (omega arith) (omega (arith, o.interties-most))
 
-  pub placed-sum-same : (i : ℕ) → i < interties s → on_intertie placed_of t i ≡ on_intertie placed_of s i
-  placed-sum-same i l = field-sum-same 109 i same.after (omega arith) (omega arith) (omega (arith, o.interties-most))
-
-  pub taken-sum-same : (i : ℕ) → i < interties s → on_intertie taken_of t i ≡ on_intertie taken_of s i
-  taken-sum-same i l = field-sum-same 141 i same.after (omega arith) (omega arith) (omega (arith, o.interties-most))
-
-  -- the locked words, and a holder's together
-  pub locked-same : (h i : ℕ) → h < holders s → i < interties s → locked_of t h i ≡ locked_of s h i
-  locked-same h i k l = late same (173 + h) i (omega arith) (omega (arith, o.holders-most)) (omega (arith, o.interties-most))
-
+  -- the locked kW of a holder together
   pub locked-sum-same : (h : ℕ) → h < holders s → of_holder locked_of t h ≡ of_holder locked_of s h
   locked-sum-same h k =
       ap (λ (n : ℕ). sum_to n (λ i. locked_of t h i)) (interties-same same)

@@ -10,7 +10,6 @@ use lib.Dec.{ltb, eqb}
 use lib.ListN.{length, set, length-set}
 use borrow.Author.Tests.{ltb-false}
 use Rattle.base.specs.Sums.{sum_to}
-use Rattle.base.specs.Answers.{refused, granted}
 use Rattle.base.proofs.ChoiceLaws.{or_left, or_right}
 use Rattle.base.proofs.SumLaws.{sum_to-same}
 use Rattle.base.specs.Limits.{state_words}
@@ -19,8 +18,7 @@ use Rattle.state.specs.Orderly.{state_refusal}
 use Rattle.state.proofs.FrameLaws.{at_stored, SameRows, same-within, same-store-past, row-sum-stored, row-sum-apart}
 use Rattle.state.proofs.OrderlyLaws.{Orderly, refusal-none, unplaced-most, pair-pending-most}
 use Rattle.call.specs.Tests.{no_holder, no_intertie, bad_kw}
-use Rattle.trading.specs.Request.{request_refusal, request_state, request}
-use Rattle.call.proofs.LadderLaws.{decided-done, decided-refused}
+use Rattle.trading.specs.Request.{request_refusal, request_state}
 use Rattle.call.proofs.TestLaws.{is-holder, is-intertie, kw-in-range, either-stage}
 use Rattle.trading.proofs.StepLaws.{none-applies}
 use Rattle.trading.proofs.KeepLaws.{SameOthers, orderly-kept}
@@ -64,15 +62,6 @@ request-room s h i kw e =
 pub request-stored : (s t : List ℕ) (h i kw pending : ℕ) → pending ≡ pending_of s h i → t ≡ set s (pending_at h i) (pending + kw) → t ≡ request_state s h i kw
 unfolding request_state
 request-stored s t h i kw pending e f = rw (f, e)
-
--- what a request gives: granted, and refused
-pub request-granted : (s : List ℕ) (h i kw : ℕ) → request_refusal s h i kw ≡ 0 → request s h i kw ≡ record { answer = granted kw 0; state = request_state s h i kw }
-unfolding request
-request-granted s h i kw e = decided-done (request_refusal s h i kw) s _ e
-
-pub request-refused : (s : List ℕ) (h i kw : ℕ) → (request_refusal s h i kw ≡ 0 → ⊥) → request s h i kw ≡ record { answer = refused (request_refusal s h i kw); state = s }
-unfolding request
-request-refused s h i kw ne = decided-refused (request_refusal s h i kw) s _ ne
 
 pub request-length : (s : List ℕ) (h i kw : ℕ) → length (request_state s h i kw) ≡ length s
 unfolding request_state

@@ -2,11 +2,10 @@
 // on an intertie (docs/RULES.md, "Calls of the year").
 #![tactic(auto)]
 
-ghost use Rattle.std.specs.Prelude.{◌≡◌, not, ◌||◌, ◌+◌, ◌<◌, ltb, eqb};
+ghost use Rattle.std.specs.Prelude.{◌≡◌, ◌+◌, ◌<◌, ltb};
 ghost use Rattle.base.specs.Limits.{most_holders};
 ghost use Rattle.base.specs.Refused.{number_in, answer_of};
-ghost use Rattle.base.specs.Stages.{trading_stage, first_requests_stage, second_requests_stage};
-ghost use Rattle.state.specs.Layout.{stage_of, unplaced_of, pending_of, of_holder};
+ghost use Rattle.state.specs.Layout.{unplaced_of, pending_of, of_holder};
 ghost use Rattle.trading.specs.Trade.{trade_refusal, with_seller, trade_state, trade};
 ghost use Rattle.trading.specs.Request.{request_refusal, request_state, request};
 
@@ -37,7 +36,8 @@ pub fn request(state: &mut [u32], holder: u32, intertie: u32, kw: u64) -> Result
     Ok(Granted { kw, passes: 0 })
 }
 
-// The first refusal that applies to a trade.
+// The first refusal that applies to a trade. (State, holders, intertie and kW one by one, as C passes them: each test here, of a
+// request too, takes only those that it tests, as its definition does.)
 #[tactic(auto, using(call::proofs::LadderLaws::passes, call::proofs::LadderLaws::stops), unfolding(crate::specs::Trade::trade_refusal))]
 fn check_trade(state: &[u32], seller: u32, buyer: u32, kw: u64) -> Result<(), Refusal>
     ensures { number_in result ≡ trade_refusal state.now seller buyer kw }
@@ -55,21 +55,14 @@ fn check_request(state: &[u32], holder: u32, intertie: u32, kw: u64) -> Result<(
     ensures { number_in result ≡ request_refusal state.now holder intertie kw }
 {
     orderly::check_state(state)?;
-    call::refuse_if(no_requests(state), Refusal::Stage)?;
+    let asked = call::is_in(state, &[Stage::FirstRequests, Stage::SecondRequests]);
+    call::refuse_if(!asked, Refusal::Stage)?;
     call::refuse_if(call::no_pair(state, holder, intertie), Refusal::NoSuch)?;
     call::refuse_if(call::bad_kw(kw), Refusal::Range)?;
     call::refuse_if(
         over_unplaced_with_pending(state, holder, kw),
         Refusal::TooMuch,
     )
-}
-
-// Refusal 7: whether the stage has no requests.
-fn no_requests(state: &[u32]) -> bool
-    ensures { let stage = stage_of state.now in
-        result ≡ not (eqb stage first_requests_stage || eqb stage second_requests_stage) }
-{
-    !(call::is_stage(state, Stage::FirstRequests) | call::is_stage(state, Stage::SecondRequests))
 }
 
 // Refusal 10: whether kW are more than the holder's unplaced.
