@@ -5,12 +5,15 @@ use mathlib.Core.List.{List}
 use mathlib.Core.Logic.{◌≢◌}
 use native.Mathlib.Omega.{arith}
 use lib.ListN.{length, set}
-use lib.Seq.{get_or-set_same, get_or-set_other}
+use lib.Seq.{get_or-set_same, get_or-set_other, set_out}
 use Rattle.base.specs.Sums.{sum_to}
 use Rattle.base.specs.Words.{at}
 use Rattle.base.proofs.SumLaws.{sum_to-same, sum_to-change}
 use Rattle.base.specs.Limits.{state_words}
 use Rattle.state.specs.Layout.{place, first_written, interties, holders}
+
+-- a word past the end is not stored
+pub ruleset past_end = (set_out)
 
 -- another row or another column is another place
 pub place-apart : (r c r' c' : ℕ) → c < 48 → c' < 48 → (r' ≡ r → c' ≡ c → ⊥) → place r' c' ≢ place r c

@@ -17,7 +17,8 @@ pub fn word(state: &[u32], row: u32, column: u32) -> u32
     read(state, ROW_WORDS * (row as usize) + (column as usize))
 }
 
-// The word of a pair, in the field that begins at a row: 0 past the end.
+// The word of a pair, in the field that begins at a row: 0 past the end. (Not `word` of field + holder: the sum of any two numbers
+// may pass 32 bits. Field, holder and intertie are three numbers, since a struct would be made at each call and taken apart at once.)
 pub fn pair_word(state: &[u32], field: u32, holder: u32, intertie: u32) -> u32
     ensures { result ≡ at state.now (place (field + holder) intertie) }
 {
@@ -94,6 +95,7 @@ fn read(state: &[u32], place: usize) -> u32
 }
 
 // Stores the word at a place: nothing past the end. (By an index, since a proof loses the words that `get_mut` lent.)
+#[tactic(auto, using(crate::proofs::FrameLaws::past_end))]
 fn write(state: &mut [u32], place: usize, value: u32)
     ensures { state.new ≡ set state.old place value }
 {

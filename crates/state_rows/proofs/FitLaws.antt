@@ -3,10 +3,9 @@ use Prim.Native.Nat.{ℕ, ◌≤◌, ◌<◌}
 use mathlib.Core.Path.{◌≡◌, ◌∙◌}
 use mathlib.Core.List.{List}
 use lib.ListN.{length}
-use mathlib.Core.Bool.{true, ◌&&◌}
-use lib.Dec.{leb}
-use borrow.Author.Tests.{leb-true, le-leb, lt-ltb}
-use Rattle.base.proofs.ChoiceLaws.{and_left, and_right, pick_true}
+use mathlib.Core.Bool.{true}
+use borrow.Author.Tests.{le-leb, lt-ltb}
+use Rattle.base.proofs.ChoiceLaws.{pick_true}
 use Rattle.base.specs.Limits.{state_words}
 use Rattle.state_rows.specs.Rows.{fill_pairs, fit_row, fit_field, fit_pairs, cleared_pairs}
 
@@ -25,17 +24,6 @@ pub record FitField (words field m n : ℕ) : Type 0 where
   pub low : field ≤ 300
   pub few : m ≤ 32
   pub narrow : n ≤ 48
-
-pub fits-field : (words field m n : ℕ) → fit_field words field m n ≡ true → FitField words field m n
-fits-field words field m n e =
-    let e₃ = and_left (leb state_words words && leb field 300 && leb m 32) (leb n 48) e in
-    let e₂ = and_left (leb state_words words && leb field 300) (leb m 32) e₃ in
-    record {
-      long = leb-true state_words words (and_left (leb state_words words) (leb field 300) e₂);
-      low = leb-true field 300 (and_right (leb state_words words) (leb field 300) e₂);
-      few = leb-true m 32 (and_right (leb state_words words && leb field 300) (leb m 32) e₃);
-      narrow = leb-true n 48 (and_right (leb state_words words && leb field 300 && leb m 32) (leb n 48) e);
-    }
 
 pub field_fits : (words field m n : ℕ) → FitField words field m n → fit_field words field m n ≡ true
 field_fits words field m n f =

@@ -8,14 +8,12 @@ ghost use Rattle.state.specs.Layout.{row_words, place, whole_rows};
 ghost use Rattle.state_rows.specs.Rows.{fill_row, fill_pairs, low32, fit_row, fit_field, fit_pairs};
 ghost use Rattle.state_rows.specs.Rows.{stored_row, stored_pairs, raised_pairs, cleared_pairs};
 
-use base::limits::{MOST_HOLDERS, MOST_INTERTIES, MOST_PAIRS, STATE_WORDS};
+use base::limits::{MOST_HOLDERS, MOST_INTERTIES, MOST_PAIRS, STATE_WORDS, WORD_VALUES};
 use state::layout::{LAST_ROW, ROW_WORDS, WHOLE_ROWS};
 
-// 2^32: how many values a word has.
-const WORD_VALUES: u64 = 4_294_967_296;
-
 // How a word of the state is changed by what stands at a place of a table. (A place and no number, since what clears has no
-// table; it is an index that none of these moves on.)
+// table; it is an index that none of these moves on. A trait and no closure: what a word becomes is named by its ghost members,
+// and the table with its length goes from row to row by one reference.)
 trait Change {
     // The places that the table has.
     ghost places: { Self → ℕ };
@@ -56,7 +54,7 @@ impl<'a> Change for Raised<'a> {
     ghost gives = { λ table word p. low32 (word + low32 (at table.values.now p)) };
 
     fn change(&self, word: u32, at: usize) -> u32 {
-        ((u64::from(word) + self.values[at] % WORD_VALUES) % WORD_VALUES) as u32
+        word.wrapping_add((self.values[at] % WORD_VALUES) as u32)
     }
 }
 
@@ -88,7 +86,8 @@ fn change_row<C: Change>(state: &mut [u32], row: usize, count: usize, table: &C,
     }
 }
 
-// Changes the first columns of as many rows by the rows of a table, 48 places a row.
+// Changes the first columns of as many rows by the rows of a table, 48 places a row. (Field, holders and interties are three numbers
+// here and below: a struct would be made at each call and taken apart at once.)
 #[tactic(auto, unfolding(crate::specs::Rows::fill_pairs))]
 fn change_rows<C: Change>(
     state: &mut [u32],
@@ -115,7 +114,8 @@ fn fits_row(words: usize, row: usize, count: usize, values: usize) -> bool
 }
 
 // Writes values over the first columns of a row, of a value over 32 bits its low ones. Does nothing
-// where the state, the row, the count or the values don't fit.
+// where the state, the row, the count or the values don't fit. (Nothing, and no error, here and below: what calls these has tested
+// the sizes. The rows are usize, since they are counted from places in tables.)
 pub fn store_row(state: &mut [u32], row: usize, count: usize, values: &[u64])
     ensures { state.new ≡ stored_row row count values.now state.old }
 {
@@ -142,7 +142,8 @@ fn fits_pairs(words: usize, field: usize, holders: usize, interties: usize, valu
 }
 
 // Writes a table of the pairs, 48 values a holder, into the field that starts at a row, of a value
-// over 32 bits its low ones. Does nothing where the state, the field, the sizes or the values don't fit.
+// over 32 bits its low ones. Does nothing where the state, the field, the sizes or the values don't fit. (It and `raise_pairs` differ
+// in the change alone; they are two by name, since `Change` is this crate's own.)
 pub fn store_pairs(
     state: &mut [u32],
     field: usize,
