@@ -5,7 +5,7 @@ use mathlib.Core.List.{List}
 use native.Mathlib.Omega.{arith}
 use lib.ListN.{length, set, length-set}
 use Rattle.base.specs.Words.{at, fill}
-use Rattle.base.proofs.WordLaws.{fill-zero, fill-place, fill-turn, fill_done}
+use Rattle.base.proofs.WordLaws.{fill-zero, fill-turn, fill_done}
 
 -- the first c numbers of n of a row are written
 pub record Filled (f : ℕ → ℕ) (n : ℕ) (first row : List ℕ) (c : ℕ) : Type 0 where
@@ -23,11 +23,3 @@ module _ (f : ℕ → ℕ) (n : ℕ) (first : List ℕ) where
 
   pub filled-all : (row : List ℕ) (c : ℕ) → Filled f n first row c → n ≤ c → row ≡ fill n f first
   filled-all row c r l = fill_done c n f first row r.written r.inside l
-
-  -- where the count is another by name
-  pub filled_to : (row : List ℕ) (c k : ℕ) → Filled f n first row c → n ≤ c → n ≡ k → row ≡ fill k f first
-  filled_to row c k r l e = rw (← e) (filled-all row c r l)
-
-  -- a number that is to come is as it was
-  pub filled-later : (row : List ℕ) (c : ℕ) → Filled f n first row c → at row c ≡ at first c
-  filled-later row c r = fill-place c f first row r.written

@@ -11,7 +11,7 @@ ghost use Rattle.base.specs.Words.{fill};
 ghost use Rattle.state.specs.Layout.{holders, load_share_of, sellers_of};
 ghost use Rattle.weights.specs.Weight.{seller_bit, average_load, weight_of, weighable, weighed};
 
-use base::limits::{MOST_HOLDERS, STATE_WORDS};
+use base::limits::{MOST_HOLDERS, STATE_WORDS, words};
 use state::layout;
 use state::layout::ROW_WORDS;
 use std::marker::Model;
@@ -49,7 +49,7 @@ impl<'a> Holders<'a> {
         ensures { let s = state.now in result ≡ pick (weighable s) (Some s) None }
     {
         let count = state::holder_count(state);
-        if (STATE_WORDS <= state.len()) & (count as usize <= MOST_HOLDERS) {
+        if (STATE_WORDS <= state.len()) & (count <= words::MOST_HOLDERS) {
             Some(Holders {
                 words: state,
                 count,
@@ -68,7 +68,8 @@ impl Holders<'_> {
         self.count
     }
 
-    // A holder's load share.
+    // A holder's load share. (By an index, since the sum over a mask's sellers reads one for each holder; `sellers`, read once a holder,
+    // by the state's own reader.)
     fn load_share(&self, holder: u32) -> u32
         requires { holder < holders self.now }
         ensures { result ≡ load_share_of self.now holder }
@@ -98,7 +99,7 @@ impl Holders<'_> {
         requires { holder < holders self.now }
         ensures { result ≡ weight_of self.now holder }
     {
-        let load = self.load_share(holder) as u64;
+        let load = u64::from(self.load_share(holder));
         if load == 0 {
             return self.average_load(holder);
         }
@@ -113,17 +114,14 @@ impl Holders<'_> {
         let sellers = self.sellers(holder);
         let mask = self.among_holders(sellers);
         let count = seller_count(mask);
-        if count == 0 {
-            return 0;
-        }
-        self.sellers_load(sellers) / count
+        self.sellers_load(sellers).checked_div(count).unwrap_or(0)
     }
 
     // A mask of sellers without the bits that stand for no holder.
     fn among_holders(&self, sellers: u32) -> u32
         ensures { result ≡ sellers % 2 ^ holders self.now }
     {
-        ((sellers as u64) % (1u64 << self.count())) as u32
+        (u64::from(sellers) % (1u64 << self.count())) as u32
     }
 
     // The load shares of the sellers of a mask together.
@@ -142,13 +140,13 @@ impl Holders<'_> {
 fn seller_count(sellers: u32) -> u64
     ensures { result ≡ ones sellers }
 {
-    u32::count_ones(sellers) as u64
+    u64::from(sellers.count_ones())
 }
 
-// A holder's load share if it is a seller of the mask, else 0.
+// A holder's load share if it is a seller of the mask, else 0. (A product, so that no branch stands in the sum.)
 fn load_if_seller(sellers: u32, holder: u32, load: u32) -> u64
     requires { holder < most_holders }
     ensures { (result ≡ seller_bit sellers holder * load) × (result ≤ load) }
 {
-    (((sellers >> holder) % 2) as u64) * (load as u64)
+    u64::from((sellers >> holder) % 2) * u64::from(load)
 }

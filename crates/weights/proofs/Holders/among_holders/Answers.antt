@@ -2,6 +2,7 @@
 use Rattle.base.proofs.Prelude.{ℕ, ◌*◌, ◌%◌, ◌^◌, ◌≤◌, ◌≡◌, ap, ◌∙◌, arith}
 use native.Mathlib.Nat.{one-mul, mod-le, lt_of_le_of_lt}
 use lib.Pow.{shl_exact, pow_pos}
+use Rattle.state.specs.Layout.{holders}
 use Rattle.weights.proofs.Holders.among_holders.Goals as goal
 
 -- the shift is a power of 2
@@ -11,8 +12,10 @@ shifted n l = shl_exact {a = 1} 1 n 64 (omega arith) (omega arith) ∙ one-mul (
 pub nonzero_rem-result : goal.nonzero_rem-result
 nonzero_rem-result c = rw (shifted c.count.result c.count.ensures.1) (pow_pos c.count.result)
 
-pub overflow_cast-result-3 : goal.overflow_cast-result-3
-overflow_cast-result-3 c = record { fits = lt_of_le_of_lt (mod-le c.args.sellers _) c.ranges.sellers.fits }
+pub overflow_cast-result-2 : goal.overflow_cast-result-2
+overflow_cast-result-2 c = record { fits = lt_of_le_of_lt (mod-le c.from.result _) (omega (arith, c.from.ensures, c.ranges.sellers.fits)) }
 
 pub returns : goal.returns
-returns c = ap (λ (k : ℕ). c.args.sellers % k) (shifted c.count.result c.count.ensures.1 ∙ ap (λ (k : ℕ). 2 ^ k) c.count.ensures.0)
+returns c =
+    ap (λ (k : ℕ). c.from.result % k) (shifted c.count.result c.count.ensures.1 ∙ ap (λ (k : ℕ). 2 ^ k) c.count.ensures.0)
+    ∙ ap (λ (k : ℕ). k % 2 ^ holders c.args.self.now) c.from.ensures
