@@ -4,7 +4,7 @@ use mathlib.Core.Path.{◌≡◌, refl, sym, ◌∙◌}
 use mathlib.Core.List.{List}
 use native.Mathlib.Omega.{arith}
 use lib.ListN.{length, set, length-set}
-use Rattle.base.specs.Words.{at, fill}
+use Rattle.base.specs.Words.{fill}
 use Rattle.base.proofs.WordLaws.{fill-zero, fill-turn, fill_done}
 
 -- the first c numbers of n of a row are written
