@@ -62,12 +62,12 @@ small-sum e p n l t kw w small =
     or_lt 25 _ kw (or_lt 25 _ t (or_lt 25 _ l (or_lt 25 _ n (or_lt 25 e p (omega arith) (omega arith)) (omega arith)) (omega arith)) (omega arith)) kw-small
 
 -- the bits of a pair
-pub pair_bits_tell :
+bits-tell :
     (s : List ℕ) (h i : ℕ) {e p n l t kw : ℕ}
     → e ≡ existing_of s h i → p ≡ pre_ra_of s h i → n ≡ new_use_of s h i → l ≡ placed_of s h i → t ≡ taken_of s h i
     → kw ≡ pair_kw s h i % 2 ^ 32
     → ltb (bit_or (bit_or (bit_or (bit_or (bit_or e p) n) l) t) kw) (2 ^ 25) ≡ pair_fits s h i
-pair_bits_tell s h i {e} {p} {n} {l} {t} {kw} a b c d f w =
+bits-tell s h i {e} {p} {n} {l} {t} {kw} a b c d f w =
     let bits = bit_or (bit_or (bit_or (bit_or (bit_or e p) n) l) t) kw in
     let sum : e + p + n + l + t ≡ pair_kw s h i = cc in
     let wraps : kw ≡ (e + p + n + l + t) % 2 ^ 32 = w ∙ ap (λ (x : ℕ). x % 2 ^ 32) (sym sum) in
@@ -75,6 +75,17 @@ pair_bits_tell s h i {e} {p} {n} {l} {t} {kw} a b c d f w =
     (λ (y : ltb bits (2 ^ 25) ≡ true). lt-ltb (e + p + n + l + t) (2 ^ 25) (small-words e p n l t kw wraps (ltb-true bits (2 ^ 25) y)))
     (λ (y : ltb (e + p + n + l + t) (2 ^ 25) ≡ true). lt-ltb bits (2 ^ 25) (small-sum e p n l t kw wraps (ltb-true (e + p + n + l + t) (2 ^ 25) y)))
     ∙ ap (λ (x : ℕ). ltb x (2 ^ 25)) sum
+
+-- a pair's words added in 32 bits, and their bits
+module _ (s : List ℕ) (h i : ℕ) {e p n l t : ℕ} (a : e ≡ existing_of s h i) (b : p ≡ pre_ra_of s h i) (c : n ≡ new_use_of s h i)
+    (d : l ≡ placed_of s h i) (f : t ≡ taken_of s h i) where
+  pub pair_kw_wraps : ((((e + p) % 2 ^ 32 + n) % 2 ^ 32 + l) % 2 ^ 32 + t) % 2 ^ 32 ≡ pair_kw s h i % 2 ^ 32
+  pair_kw_wraps = omega (arith, a, b, c, d, f)
+
+  pub pair_bits_tell :
+      ltb (bit_or (bit_or (bit_or (bit_or (bit_or e p) n) l) t) (((((e + p) % 2 ^ 32 + n) % 2 ^ 32 + l) % 2 ^ 32 + t) % 2 ^ 32)) (2 ^ 25)
+      ≡ pair_fits s h i
+  pair_bits_tell = bits-tell s h i a b c d f pair_kw_wraps
 
 -- a loop that puts bits together: a turn
 pub bits_turn : (n : ℕ) (p : ℕ → Bool) (bits b : ℕ) → ltb bits (2 ^ 25) ≡ all_to n p → ltb b (2 ^ 25) ≡ p n → ltb (bit_or bits b) (2 ^ 25) ≡ all_to (n + 1) p

@@ -1,5 +1,5 @@
 -- A row as a list of its words, and what a chain over it comes to.
-use Rattle.std.proofs.Common.{◌≡◌, ℕ, ◌+◌, ◌-◌, ◌*◌, ◌%◌, ◌^◌, ◌<◌, ◌≤◌, true, ◌&&◌, eqb, leb, List, [], ◌∷◌, length, sym, ap, ◌∙◌, arith, mod-eq_of_lt}
+use Rattle.std.proofs.Common.{◌≡◌, ℕ, ◌+◌, ◌-◌, ◌*◌, ◌%◌, ◌^◌, ◌<◌, ◌≤◌, true, ◌&&◌, eqb, leb, List, [], ◌∷◌, length, refl, sym, ap, ◌∙◌, arith, mod-eq_of_lt}
 use Rattle.std.specs.List.{fold, list_all}
 use lib.Bits.{bit_or}
 use mathlib.Core.Bool.{and_assoc, and-true}
@@ -10,7 +10,7 @@ use Rattle.base.proofs.ListLaws.{fold_turns, fold_wraps, all_places}
 use Rattle.base.proofs.SumLaws.{sum_to-same, sum_to-bound, all_to-same}
 use Rattle.base.proofs.TestLaws.{or-none}
 use Rattle.base.proofs.VectorLaws.{at_mid}
-use Rattle.base.proofs.WordLaws.{length-tab, at-tab, tab-at, tab-same}
+use Rattle.base.proofs.WordLaws.{at-tab, tab-at, tab-same}
 
 -- the words from a up to e
 pub row_is : (s : List ℕ) (a e n : ℕ) → e ≡ a + n → e ≤ length s → mid_of a (e - a) s ≡ tab n (λ c. at s (a + c))
@@ -21,14 +21,10 @@ row_is s a e n end inside =
     ∙ tab-same n (at (mid_of a (e - a) s)) (λ c. at s (a + c)) (λ c l. at_mid a (e - a) s c (omega arith))
 
 -- a test of each
-pub all_within : (n most : ℕ) (f : ℕ → ℕ) (row : List ℕ) → row ≡ tab n f →
-    fold (λ within word. within && leb word most) true row ≡ all_to n (λ c. leb (f c) most)
+pub all_within : (most : ℕ) (row : List ℕ) →
+    fold (λ within word. within && leb word most) true row ≡ all_to (length row) (λ c. leb (at row c) most)
 unfolding all_to
-all_within n most f row e =
-    let size : length row ≡ n = ap length e ∙ length-tab n f in
-    fold_turns (λ within word. within && leb word most) (λ i. all_to i (λ c. leb (f c) most)) row
-    (λ i l. ap (λ w. all_to i (λ c. leb (f c) most) && leb w most) (ap (λ r. at r i) e ∙ at-tab n f i (omega arith)))
-    ∙ ap (λ k. all_to k (λ c. leb (f c) most)) size
+all_within most row = fold_turns (λ within word. within && leb word most) (λ i. all_to i (λ c. leb (at row c) most)) row (λ i l. refl)
 
 -- whether each is 0, from their bits together
 clear_from : (bits : ℕ) (row : List ℕ) → eqb (fold (λ bits word. bit_or bits word) bits row) 0 ≡ (eqb bits 0 && list_all (λ word. leb word 0) row)
@@ -38,22 +34,25 @@ clear_from bits (word ∷ row) =
     ∙ ap (λ b. b && list_all (λ word. leb word 0) row) (or-none bits word)
     ∙ and_assoc (eqb bits 0) (leb word 0) (list_all (λ word. leb word 0) row)
 
-pub all-clear : (n : ℕ) (f : ℕ → ℕ) (row : List ℕ) → row ≡ tab n f →
-    eqb (fold (λ bits word. bit_or bits word) 0 row) 0 ≡ all_to n (λ c. leb (f c) 0)
-all-clear n f row e =
-    let size : length row ≡ n = ap length e ∙ length-tab n f in
-    clear_from 0 row
-    ∙ all_places (λ word. leb word 0) row
-    ∙ ap (λ k. all_to k (λ c. leb (at row c) 0)) size
-    ∙ all_to-same n _ _ (λ i l. ap (λ w. leb w 0) (ap (λ r. at r i) e ∙ at-tab n f i l))
+pub all-clear : (row : List ℕ) → eqb (fold (λ bits word. bit_or bits word) 0 row) 0 ≡ all_to (length row) (λ c. leb (at row c) 0)
+all-clear row = clear_from 0 row ∙ all_places (λ word. leb word 0) row
 
 -- their sum, which passes no 64 bits
-pub summed : (n : ℕ) (f : ℕ → ℕ) (row : List ℕ) → row ≡ tab n f → n ≤ 48 → ((i : ℕ) → at row i < 2 ^ 32) →
-    fold (λ sum word. (sum + word) % 2 ^ 64) 0 row ≡ sum_to n f
-summed n f row e few small =
-    let size : length row ≡ n = ap length e ∙ length-tab n f in
+pub summed : (row : List ℕ) → length row ≤ 48 → ((i : ℕ) → at row i < 2 ^ 32) →
+    fold (λ sum word. (sum + word) % 2 ^ 64) 0 row ≡ sum_to (length row) (at row)
+summed row few small =
     let bound : sum_to (length row) (at row) ≤ length row * 4294967295 = sum_to-bound (length row) 4294967295 (at row) (λ i l. omega (arith, small i)) in
-    fold_wraps row
-    ∙ mod-eq_of_lt (omega (arith, bound))
-    ∙ ap (λ k. sum_to k (at row)) size
-    ∙ sum_to-same n (at row) f (λ i l. ap (λ r. at r i) e ∙ at-tab n f i l)
+    fold_wraps row ∙ mod-eq_of_lt (omega (arith, bound))
+
+-- what is said of the words of a row, of the state's
+module _ (n : ℕ) (f : ℕ → ℕ) (row : List ℕ) (is : (length row ≡ n) × (row ≡ tab n f)) where
+  word-is : (i : ℕ) → i < n → at row i ≡ f i
+  word-is i l = ap (λ r. at r i) is.1 ∙ at-tab n f i l
+
+  pub row-within : (most : ℕ) → all_to (length row) (λ c. leb (at row c) most) ≡ all_to n (λ c. leb (f c) most)
+  row-within most =
+      ap (λ k. all_to k (λ c. leb (at row c) most)) is.0
+      ∙ all_to-same n _ _ (λ i l. ap (λ w. leb w most) (word-is i l))
+
+  pub row-sum : sum_to (length row) (at row) ≡ sum_to n f
+  row-sum = ap (λ k. sum_to k (at row)) is.0 ∙ sum_to-same n (at row) f word-is

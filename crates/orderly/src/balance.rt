@@ -8,20 +8,28 @@ ghost use Rattle.state.specs.Layout.{interties, holders};
 ghost use Rattle.state.specs.Orderly.{limits_in_range, balanced};
 ghost use Rattle.orderly.specs.Workers.Check.{too_many_kw, pair_kw, pair_fits, Cleared, Added, limit_met};
 
-use super::rows::Rows;
-use base::limits;
+use super::all_of;
+use super::rows::{Rows, within};
 use base::limits::MOST_INTERTIES;
+use base::limits::words::MOST_KW;
 use state::layout;
-
-const MOST_KW: u32 = limits::MOST_KW as u32;
 
 // 2^25: more than a limit may be.
 const TOO_MANY_KW: u32 = 33_554_432;
 
-// The kW of a pair that stand against its intertie's limit, in 32 bits.
-fn pair_kw(rows: &Rows, holder: u32, intertie: usize) -> u32
+// KW that stand against an intertie's limit, in 32 bits, and the bits of the words that make them up, with those of each pair's kW.
+#[derive(Clone, Copy)]
+struct Kw {
+    sum: u32,
+    bits: u32,
+}
+
+// The kW of a pair.
+#[tactic(auto, using(crate::proofs::BalanceLaws::pair_kw_wraps, crate::proofs::BalanceLaws::pair_bits_tell))]
+fn pair_kw(rows: &Rows, holder: u32, intertie: usize) -> Kw
     requires { (holder < most_holders) × (intertie < most_interties) }
-    ensures { result ≡ pair_kw rows.now holder intertie % 2 ^ 32 }
+    ensures { let s = rows.now in
+        (result.sum ≡ pair_kw s holder intertie % 2 ^ 32) × (nat_lt result.bits too_many_kw ≡ pair_fits s holder intertie) }
 {
     let existing = rows.word(layout::EXISTING + holder, intertie);
     let pre_ra = rows.word(layout::PRE_RA + holder, intertie);
@@ -29,47 +37,29 @@ fn pair_kw(rows: &Rows, holder: u32, intertie: usize) -> u32
     let placed = rows.word(layout::PLACED + holder, intertie);
     let taken = rows.word(layout::TAKEN + holder, intertie);
     let reserved = existing.wrapping_add(pre_ra).wrapping_add(new_use);
-    reserved.wrapping_add(placed).wrapping_add(taken)
-}
-
-// The bits of the words that make up a pair's kW, and of the kW.
-#[tactic(auto, using(crate::proofs::BalanceLaws::pair_bits_tell))]
-fn pair_bits(rows: &Rows, holder: u32, intertie: usize) -> u32
-    requires { (holder < most_holders) × (intertie < most_interties) }
-    ensures { nat_lt result too_many_kw ≡ pair_fits rows.now holder intertie }
-{
-    let existing = rows.word(layout::EXISTING + holder, intertie);
-    let pre_ra = rows.word(layout::PRE_RA + holder, intertie);
-    let new_use = rows.word(layout::NEW_USE + holder, intertie);
-    let placed = rows.word(layout::PLACED + holder, intertie);
-    let taken = rows.word(layout::TAKEN + holder, intertie);
-    existing | pre_ra | new_use | placed | taken | pair_kw(rows, holder, intertie)
-}
-
-// The kW of the pairs of N holders, from one of them on, on an intertie, in 32 bits.
-#[tactic(auto, using(crate::proofs::BalanceLaws::kw_turn), unfolding(base::specs::Sums::sum_to))]
-fn kw_of<const N: u32>(rows: &Rows, holder: u32, intertie: usize) -> u32
-    requires { (holder + N ≤ most_holders) × (intertie < most_interties) }
-    ensures { result ≡ sum_to N (λ (k : ℕ). pair_kw rows.now (holder + k) intertie) % 2 ^ 32 }
-{
-    let mut kw: u32 = 0;
-    for k in 0..N {
-        kw = kw.wrapping_add(pair_kw(rows, holder + k, intertie));
+    let sum = reserved.wrapping_add(placed).wrapping_add(taken);
+    Kw {
+        sum,
+        bits: existing | pre_ra | new_use | placed | taken | sum,
     }
-    kw
 }
 
-// The bits of these pairs.
-#[tactic(auto, using(crate::proofs::BalanceLaws::bits_turn), unfolding(base::specs::Sums::all_to))]
-fn bits_of<const N: u32>(rows: &Rows, holder: u32, intertie: usize) -> u32
+// The kW of the pairs of N holders, from one of them on, on an intertie.
+#[tactic(auto, using(crate::proofs::BalanceLaws::kw_turn, crate::proofs::BalanceLaws::bits_turn), unfolding(base::specs::Sums::sum_to, base::specs::Sums::all_to))]
+fn kw_of<const N: u32>(rows: &Rows, holder: u32, intertie: usize) -> Kw
     requires { (holder + N ≤ most_holders) × (intertie < most_interties) }
-    ensures { nat_lt result too_many_kw ≡ all_to N (λ (k : ℕ). pair_fits rows.now (holder + k) intertie) }
+    ensures { let s = rows.now in
+        (result.sum ≡ sum_to N (λ (k : ℕ). pair_kw s (holder + k) intertie) % 2 ^ 32)
+        × (nat_lt result.bits too_many_kw ≡ all_to N (λ (k : ℕ). pair_fits s (holder + k) intertie)) }
 {
+    let mut sum: u32 = 0;
     let mut bits: u32 = 0;
     for k in 0..N {
-        bits = bits | pair_bits(rows, holder + k, intertie);
+        let pair = pair_kw(rows, holder + k, intertie);
+        sum = sum.wrapping_add(pair.sum);
+        bits = bits | pair.bits;
     }
-    bits
+    Kw { sum, bits }
 }
 
 // Adds the kW of N holders, from one of them on, to the sums of the interties. (Two at once are quicker than one after the
@@ -83,8 +73,9 @@ fn add_kw<const N: u32>(rows: &Rows, holder: u32, sums: &mut [u32; MOST_INTERTIE
 {
     let mut bits: u32 = 0;
     for intertie in 0..rows.interties() {
-        bits = bits | bits_of::<N>(rows, holder, intertie);
-        sums[intertie] = sums[intertie].wrapping_add(kw_of::<N>(rows, holder, intertie));
+        let kw = kw_of::<N>(rows, holder, intertie);
+        bits = bits | kw.bits;
+        sums[intertie] = sums[intertie].wrapping_add(kw.sum);
     }
     bits
 }
@@ -121,22 +112,18 @@ fn limit_met(rows: &Rows, intertie: usize, kw: u32) -> bool
     requires { intertie < most_interties }
     ensures { result ≡ limit_met rows.now intertie kw }
 {
-    let limit = rows.word(layout::LIMIT, intertie) as u64;
-    let outside = rows.word(layout::OUTSIDE, intertie) as u64;
-    let unassigned = rows.word(layout::UNASSIGNED, intertie) as u64;
-    limit == outside + (kw as u64) + unassigned
+    let limit = rows.word(layout::LIMIT, intertie);
+    let outside = rows.word(layout::OUTSIDE, intertie);
+    let unassigned = rows.word(layout::UNASSIGNED, intertie);
+    u64::from(limit) == u64::from(outside) + u64::from(kw) + u64::from(unassigned)
 }
 
 // Whether every limit is met by the sums of the pairs.
-#[tactic(auto, using(base::proofs::SumLaws::all_more), unfolding(base::specs::Sums::all_to))]
 fn limits_met(rows: &Rows, sums: &[u32; MOST_INTERTIES]) -> bool
     ensures { let s = rows.now in result ≡ all_to (interties s) (λ (i : ℕ). limit_met s i (at sums.now i)) }
 {
-    let mut met = true;
-    for intertie in 0..rows.interties() {
-        met = met & limit_met(rows, intertie, sums[intertie]);
-    }
-    met
+    let interties = rows.interties() as u32;
+    all_of(interties, |i| limit_met(rows, i as usize, sums[i as usize]))
 }
 
 // Limits in range, and the balance on each intertie.
@@ -146,5 +133,7 @@ pub(super) fn limits_balance(rows: &Rows) -> bool
     let interties = rows.interties();
     let mut sums = [0u32; MOST_INTERTIES];
     let bits = add_holders(rows, &mut sums);
-    rows.within(layout::LIMIT, interties, MOST_KW) & (bits < TOO_MANY_KW) & limits_met(rows, &sums)
+    within(rows.row(layout::LIMIT, interties), MOST_KW)
+        & (bits < TOO_MANY_KW)
+        & limits_met(rows, &sums)
 }

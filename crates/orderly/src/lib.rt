@@ -8,8 +8,9 @@ mod locks;
 mod pending;
 mod rows;
 
-ghost use Rattle.std.specs.Prelude.{◌≡◌};
+ghost use Rattle.std.specs.Prelude.{◌≡◌, ℕ, ◌<◌, Bool};
 ghost use Rattle.base.specs.Refused.{number_in};
+ghost use Rattle.base.specs.Sums.{all_to};
 ghost use Rattle.state.specs.Orderly.{state_refusal};
 ghost use Rattle.orderly.specs.Workers.Check.{rows_in_order};
 
@@ -27,6 +28,18 @@ pub fn check_state(state: &[u32]) -> Result<(), Refusal>
     } else {
         Err(Refusal::NotOrderly)
     }
+}
+
+// Whether a test holds of each number below a count. (No branch stands between the tests: each is made.)
+fn all_of<F: Fn(u32) -> bool>(count: u32, test: F) -> bool
+    requires { (n : ℕ) → n < count → F.pre test n }
+    ensures { (p : ℕ → Bool) → ((n : ℕ) (b : Bool) → n < count → F.post test n b → b ≡ p n) → result ≡ all_to count p }
+{
+    let mut all = true;
+    for n in 0..count {
+        all = all & test(n);
+    }
+    all
 }
 
 // All but the sizes and the stage.

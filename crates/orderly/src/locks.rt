@@ -6,6 +6,7 @@ ghost use Rattle.state.specs.Layout.{interties};
 ghost use Rattle.state.specs.Orderly.{locked_within_placed, terms_fit};
 ghost use Rattle.orderly.specs.Workers.Check.{lock_fits, pair_lock_fits, unlocked};
 
+use super::all_of;
 use super::rows::Rows;
 use base::limits;
 use base::stages::Stage;
@@ -31,16 +32,12 @@ fn pair_lock_fits(rows: &Rows, holder: u32, intertie: usize) -> bool
 }
 
 // Whether the pairs of a holder have their locks in order.
-#[tactic(auto, using(base::proofs::SumLaws::all_more), unfolding(base::specs::Sums::all_to))]
 fn pair_locks_in_order(rows: &Rows, holder: u32) -> bool
     requires { holder < most_holders }
     ensures { let s = rows.now in result ≡ all_to (interties s) (λ (i : ℕ). pair_lock_fits s holder i) }
 {
-    let mut in_order = true;
-    for intertie in 0..rows.interties() {
-        in_order = in_order & pair_lock_fits(rows, holder, intertie);
-    }
-    in_order
+    let interties = rows.interties() as u32;
+    all_of(interties, |i| pair_lock_fits(rows, holder, i as usize))
 }
 
 // Whether a holder has no locked kW and no lock term. (One loop over both: `is_clear` of two rows takes longer.)
@@ -73,13 +70,8 @@ fn holder_locks_in_order(rows: &Rows, holder: u32) -> bool
 }
 
 // Whether the locks of all holders are in order.
-#[tactic(auto, using(base::proofs::SumLaws::all_more), unfolding(base::specs::Sums::all_to))]
 pub(super) fn locks_in_order(rows: &Rows) -> bool
     ensures { let s = rows.now in result ≡ (locked_within_placed s && terms_fit s) }
 {
-    let mut in_order = true;
-    for holder in 0..rows.holders() {
-        in_order = in_order & holder_locks_in_order(rows, holder);
-    }
-    in_order
+    all_of(rows.holders(), |h| holder_locks_in_order(rows, h))
 }

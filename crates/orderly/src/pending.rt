@@ -5,7 +5,8 @@ ghost use Rattle.state.specs.Layout.{pending_of, of_holder};
 ghost use Rattle.state.specs.Orderly.{pending_within_unplaced};
 ghost use Rattle.orderly.specs.Workers.Check.{most_pending};
 
-use super::rows::Rows;
+use super::all_of;
+use super::rows::{Rows, is_clear, sum};
 use base::stages::Stage;
 use state::layout;
 
@@ -23,27 +24,21 @@ fn most_pending(rows: &Rows, holder: u32) -> u64
 }
 
 // Whether a holder's pending kW are within their most. Where that is 0, so is each of them.
-#[tactic(auto, using(crate::proofs::CheckLaws::none_pending))]
 fn holder_pending_in_order(rows: &Rows, holder: u32) -> bool
     requires { holder < most_holders }
     ensures { let s = rows.now in result ≡ nat_le (of_holder pending_of s holder) (most_pending s holder) }
 {
-    let interties = rows.interties();
+    let pending = rows.row(layout::PENDING + holder, rows.interties());
     let most = most_pending(rows, holder);
     if most == 0 {
-        return rows.is_clear(layout::PENDING + holder, interties);
+        return is_clear(pending);
     }
-    rows.sum(layout::PENDING + holder, interties) <= most
+    sum(pending) <= most
 }
 
 // Whether the pending kW of all holders are in order.
-#[tactic(auto, using(base::proofs::SumLaws::all_more), unfolding(base::specs::Sums::all_to))]
 pub(super) fn pending_in_order(rows: &Rows) -> bool
     ensures { result ≡ pending_within_unplaced rows.now }
 {
-    let mut in_order = true;
-    for holder in 0..rows.holders() {
-        in_order = in_order & holder_pending_in_order(rows, holder);
-    }
-    in_order
+    all_of(rows.holders(), |h| holder_pending_in_order(rows, h))
 }

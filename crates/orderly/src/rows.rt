@@ -1,6 +1,6 @@
 // A state as its rows, and the tests of a row. A test has no branch: it goes through the row's words and puts together what
 // it finds.
-ghost use Rattle.std.specs.Prelude.{◌≡◌, ℕ, ◌<◌, ◌≤◌, ◌&&◌, leb};
+ghost use Rattle.std.specs.Prelude.{◌≡◌, ℕ, ◌<◌, ◌≤◌, leb, length};
 ghost use Rattle.base.specs.Sums.{sum_to, all_to};
 ghost use Rattle.base.specs.Words.{at, tab};
 ghost use Rattle.base.specs.Limits.{most_interties, most_holders};
@@ -8,7 +8,7 @@ ghost use Rattle.base.specs.Stage.{number_of};
 ghost use Rattle.state.specs.Layout.{row_words, place, last_row, interties, holders, stage_of};
 ghost use Rattle.orderly.specs.Workers.Check.{Told};
 
-use base::limits::{MOST_HOLDERS, MOST_INTERTIES, STATE_WORDS};
+use base::limits::{STATE_WORDS, sizes_in_range};
 use base::refusals::Refusal;
 use base::stages::Stage;
 use state::layout;
@@ -35,16 +35,6 @@ impl<'a> Model for Rows<'a> {
     ghost invariant = { λ rows. Sized rows.words.now rows.interties rows.holders rows.stage };
 }
 
-// Whether I and H are in range.
-fn sizes_in_range(interties: u32, holders: u32) -> bool
-    ensures { result ≡ (leb 1 interties && leb interties most_interties && leb 1 holders && leb holders most_holders) }
-{
-    (1 <= interties)
-        & (interties as usize <= MOST_INTERTIES)
-        & (1 <= holders)
-        & (holders as usize <= MOST_HOLDERS)
-}
-
 impl<'a> Rows<'a> {
     // Refusal 5 of a state under 16,000 words, 6 of one whose sizes or stage are out of range.
     #[tactic(auto, using(crate::proofs::CheckLaws::told))]
@@ -59,15 +49,15 @@ impl<'a> Rows<'a> {
         if !sizes_in_range(interties, holders) {
             return Err(Refusal::NotOrderly);
         }
-        match Stage::try_from(state::stage(state)) {
-            Ok(stage) => Ok(Rows {
-                words: state,
-                interties: interties as usize,
-                holders,
-                stage,
-            }),
-            Err(_) => Err(Refusal::NotOrderly),
-        }
+        let Ok(stage) = Stage::try_from(state::stage(state)) else {
+            return Err(Refusal::NotOrderly);
+        };
+        Ok(Rows {
+            words: state,
+            interties: interties as usize,
+            holders,
+            stage,
+        })
     }
 }
 
@@ -93,7 +83,8 @@ impl Rows<'_> {
         self.stage
     }
 
-    // A word of a row.
+    // A word of a row. (Here and in what reads pairs, a row, a holder and an intertie are asked for by number, and each contract
+    // says that it is in range: a type for a number in range would be taken apart at each word.)
     pub(super) fn word(&self, row: u32, column: usize) -> u32
         requires { (row ≤ last_row) × (column < row_words) }
         ensures { result ≡ at self.now (place row column) }
@@ -102,44 +93,38 @@ impl Rows<'_> {
     }
 
     // The first words of a row.
-    fn row(&self, row: u32, count: usize) -> &[u32]
+    pub(super) fn row(&self, row: u32, count: usize) -> &[u32]
         requires { (row ≤ last_row) × (count ≤ row_words) }
-        ensures { result.now ≡ tab count (λ (c : ℕ). at self.now (place row c)) }
+        ensures { (length result.now ≡ count) × (result.now ≡ tab count (λ (c : ℕ). at self.now (place row c))) }
     {
         let first = ROW_WORDS * (row as usize);
         &self.words[first..first + count]
     }
+}
 
-    // Whether they are at most a number.
-    pub(super) fn within(&self, row: u32, count: usize, most: u32) -> bool
-        requires { (row ≤ last_row) × (count ≤ row_words) }
-        ensures { result ≡ all_to count (λ (c : ℕ). leb (at self.now (place row c)) most) }
-    {
-        self.row(row, count)
-            .iter()
-            .fold(true, |within, word| within & (*word <= most))
-    }
+// Whether the words of a row are at most a number.
+pub(super) fn within(words: &[u32], most: u32) -> bool
+    ensures { let row = words.now in result ≡ all_to (length row) (λ (c : ℕ). leb (at row c) most) }
+{
+    words
+        .iter()
+        .fold(true, |within, word| within & (*word <= most))
+}
 
-    // Whether they are all 0. (As `within` with 0, a check in stage 1 takes 5 per cent longer: their bits together are
-    // quicker than a test of each.)
-    pub(super) fn is_clear(&self, row: u32, count: usize) -> bool
-        requires { (row ≤ last_row) × (count ≤ row_words) }
-        ensures { result ≡ all_to count (λ (c : ℕ). leb (at self.now (place row c)) 0) }
-    {
-        self.row(row, count)
-            .iter()
-            .fold(0, |bits, word| bits | *word)
-            == 0
-    }
+// Whether they are all 0. (As `within` with 0, a check in stage 1 takes 5 per cent longer: their bits together are quicker than a
+// test of each.)
+pub(super) fn is_clear(words: &[u32]) -> bool
+    ensures { let row = words.now in result ≡ all_to (length row) (λ (c : ℕ). leb (at row c) 0) }
+{
+    words.iter().fold(0, |bits, word| bits | *word) == 0
+}
 
-    // Their sum.
-    pub(super) fn sum(&self, row: u32, count: usize) -> u64
-        requires { (row ≤ last_row) × (count ≤ row_words) }
-        ensures { result ≡ sum_to count (λ (c : ℕ). at self.now (place row c)) }
-    {
-        let words = self.row(row, count);
-        words
-            .iter()
-            .fold(0, |sum, word| sum.wrapping_add(u64::from(*word)))
-    }
+// Their sum.
+pub(super) fn sum(words: &[u32]) -> u64
+    requires { length words.now ≤ row_words }
+    ensures { let row = words.now in result ≡ sum_to (length row) (at row) }
+{
+    words
+        .iter()
+        .fold(0, |sum, word| sum.wrapping_add(u64::from(*word)))
 }

@@ -11,4 +11,4 @@ pub loop-intertie-preserved : goal.loop-intertie-preserved
 loop-intertie-preserved g c =
     let l = c.loop-intertie in
     let kept : at l.sums l.intertie ≡ at c.args.sums.now l.intertie = fill-place _ _ _ _ l.invariant.1 in
-    (bits_turn _ _ l.bits _ l.invariant.0 c.bits_of-bits.ensures, fill-turn _ _ _ _ _ l.invariant.1 (cc (kept, c.kw_of.ensures)))
+    (bits_turn _ _ l.bits _ l.invariant.0 c.kw_of-kw.ensures.1, fill-turn _ _ _ _ _ l.invariant.1 (cc (kept, c.kw_of-kw.ensures.0)))

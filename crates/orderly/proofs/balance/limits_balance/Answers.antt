@@ -1,7 +1,8 @@
 -- `limits_balance` meets its contract.
-use Rattle.base.proofs.Prelude.{ℕ, arith}
+use Rattle.base.proofs.Prelude.{ℕ, ◌∙◌, arith}
 use lib.ListN.{get_or-replicate, length-replicate}
 use Rattle.orderly.proofs.BalanceLaws.{limits-balance-is}
+use Rattle.orderly.proofs.RowLaws.{row-within}
 use Rattle.orderly.proofs.balance.limits_balance.Goals as goal
 
 pub add_holders-bits-requires : goal.add_holders-bits-requires
@@ -13,4 +14,4 @@ add_holders-bits-requires c = record {
 
 pub returns : goal.returns
 returns c =
-    limits-balance-is _ _ _ _ c.interties-interties.ensures.0 c.within.ensures c.add_holders-bits.ensures c.limits_met.ensures
+    limits-balance-is _ _ _ _ c.interties-interties.ensures.0 (c.within.ensures ∙ row-within _ _ _ c.row.ensures _) c.add_holders-bits.ensures c.limits_met.ensures

@@ -1,7 +1,12 @@
-use Rattle.base.proofs.Prelude.{◌∙◌, arith}
-use Rattle.base.proofs.SumLaws.{all_done}
+-- `locks_in_order` meets its contract: the locks of all holders are tested.
+use Rattle.base.proofs.Prelude.{◌≡◌, ◌∙◌, rules, all_to}
+use Rattle.state.specs.Layout.{interties, holders}
+use Rattle.orderly.specs.Workers.Check.{pair_lock_fits}
 use Rattle.orderly.proofs.CheckLaws.{locks_are}
 use Rattle.orderly.proofs.locks.locks_in_order.Goals as goal
 
 pub returns : goal.returns
-returns c = all_done _ _ _ _ c.loop-holder.invariant (omega arith) (omega arith) ∙ locks_are _
+returns c =
+    let s = c.args.rows.now in
+    let tested : c.all_of.result ≡ all_to (holders s) (λ h. all_to (interties s) (λ i. pair_lock_fits s h i)) = search rules in
+    tested ∙ locks_are s

@@ -1,9 +1,0 @@
-use Rattle.std.proofs.Common.{◌≡◌, ◌∙◌, ◌+◌, ◌%◌, ◌^◌, rules}
-use Rattle.std.specs.List.{fold}
-use Rattle.orderly.proofs.RowLaws.{summed}
-use Rattle.orderly.proofs.rows.Rows.sum.Goals as goal
-
-pub returns : goal.returns
-returns c =
-    let chain : c.fold.result ≡ fold (λ sum word. (sum + word) % 2 ^ 64) 0 c.row-words.result.now = search rules in
-    chain ∙ summed _ _ _ c.row-words.ensures c.requires.1 (λ i. search rules)
