@@ -1,10 +1,10 @@
 // The share-out: a pool over claims with weights, in passes (docs/RULES.md, "Share-out").
 #![tactic(auto)]
 
-ghost use Rattle.std.specs.Prelude.{◌≡◌, ◌&&◌, ℕ, ◌*◌, ◌/◌, ◌≤◌, length, leb, ltb};
+ghost use Rattle.std.specs.Prelude.{◌≡◌, ◌&&◌, ℕ, ◌*◌, ◌/◌, ◌≤◌, ◌<◌, length, leb, ltb};
 ghost use Rattle.base.specs.Answers.{granted};
 ghost use Rattle.base.specs.Choice.{pick};
-ghost use Rattle.base.specs.Limits.{most_kw, most_claim_kw};
+ghost use Rattle.base.specs.Limits.{most_kw, most_claim_kw, most_load_share};
 ghost use Rattle.base.specs.Refused.{answer_of};
 ghost use Rattle.base.specs.Words.{at};
 ghost use Rattle.share_out.specs.Rule.{shared, unfit_numbers, shared_answer, share_out};
@@ -104,6 +104,17 @@ fn rate_of(left: u64, all: u64) -> u64
     (left * PARTS).checked_div(all).unwrap_or(0)
 }
 
+// left × weight / all rounded down. (Not inlined, since it is seldom asked for: with a division in it the passes' loop is made wide,
+// and slower.)
+#[cold]
+#[inline(never)]
+fn exact_portion(left: u64, weight: u64, all: u64) -> u64
+    requires { (left ≤ most_kw) × (weight ≤ most_load_share) × (0 < all) }
+    ensures { result ≡ left * weight / all }
+{
+    left * weight / all
+}
+
 // left × weight / all rounded down, by the rate: the exact number of parts is at least weight × rate and at most
 // `weight` more, so a division is needed only where a whole kW lies between the two.
 #[tactic(auto, using(crate::proofs::RateLaws::by_rate))]
@@ -116,7 +127,7 @@ fn portion(left: u64, weight: u64, all: u64, rate: u64) -> u64
     if (parts + weight) / PARTS == kw {
         return kw;
     }
-    left * weight / all
+    exact_portion(left, weight, all)
 }
 
 // The weight that a holder brings into W after its part: none once the part meets its unmet claim.
@@ -127,9 +138,7 @@ fn weight_after(part: u64, unmet: u64, weight: u64) -> u64
 }
 
 // Serves holders in turn, lowest number first, until the pool is empty: each gets what it wants, by its unmet claim and the
-// weight that it brings into W. Hands back the kW given. (Not inlined, for the speed of the loops over passes and holders. By place:
-// what a zip of `iter_mut` lends is lost to the proof.)
-#[inline(never)]
+// weight that it brings into W. Hands back the kW given. (By place: what a zip of `iter_mut` lends is lost to the proof.)
 fn serve_in_turn<F: Fn(u64, u64) -> u64>(
     left: u64,
     want: F,
