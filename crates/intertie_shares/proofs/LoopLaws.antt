@@ -1,13 +1,15 @@
 -- The code's loops: over holders, a column that is filled; over interties, a share-out on each.
-use Prim.Native.Nat.{ℕ, ◌+◌, ◌≤◌, ◌<◌, min, zero-le}
-use mathlib.Core.Path.{◌≡◌, refl, sym, ap, ◌∙◌}
+use Prim.Native.Nat.{ℕ, ◌+◌, ◌-◌, ◌/◌, ◌≤◌, ◌<◌, zero-le}
+use mathlib.Core.Path.{◌≡◌, refl, sym, ap, ◌∙◌, subst}
 use mathlib.Core.Bool.{Bool, true, false}
-use mathlib.Core.List.{List}
-use native.Mathlib.Nat.{min-eq_left}
+use mathlib.Core.List.{List, []}
 use native.Mathlib.Omega.{arith}
 use lib.Dec.{leb, eqb}
-use lib.ListN.{length, take, set, length-set}
+use lib.ListN.{length, take, set, length-set, get_or}
+use Rattle.std.proofs.lemmas.List.{get_or-take}
+use Rattle.std.specs.Simd.{first_chunks}
 use borrow.Author.Tests.{leb-true}
+use Rattle.std.specs.Prelude.{Option, Some, None, SomeIff}
 use Rattle.base.specs.Choice.{pick}
 use Rattle.base.specs.Sums.{sum_to, all_to}
 use Rattle.base.specs.Words.{at, tab, fill}
@@ -15,11 +17,12 @@ use Rattle.base.specs.Answers.{refused, granted}
 use Rattle.base.specs.declared.Answer.{Answer}
 use Rattle.base.specs.declared.Granted.{Granted}
 use Rattle.base.proofs.SumLaws.{sum_to-zero, sum_to-more, sum_to-mono, sum_to-term, all_to-each}
+use Rattle.base.proofs.VectorLaws.{at-row}
 use Rattle.base.proofs.WordLaws.{take-tab, length-tab, at-tab, fill-whole}
 use Rattle.share_out.specs.Rule.{Outcome, shared, unfit_lengths, unfit_numbers, shared_answer, share_out}
 use Rattle.intertie_shares.specs.Pairs.{pair_at, at_pair, column, fill_column, fill_table}
 use Rattle.intertie_shares.specs.Rule.{among_holders, share_out_on, grant_on, kw_over, passes_over, share_out_each}
-use Rattle.intertie_shares.specs.Workers.Fit.{Sized, SharedOn}
+use Rattle.intertie_shares.specs.Workers.Fit.{Sized, InTable, SharedOn}
 use Rattle.intertie_shares.proofs.PairLaws.{fill_column-zero, fill_column-more, fill_column-same, length-fill_column, fill_table-zero, fill_table-more}
 use Rattle.intertie_shares.proofs.HolderLaws.{Ranged, among-fits}
 use Rattle.intertie_shares.proofs.IntertieLaws.{kept_on, kw-most, passes-most}
@@ -100,33 +103,46 @@ shared-on i H pools claims weights claimed before output after-it grants after r
       column = a ∙ rw (m, out);
     }
 
--- after h of n claims, together still within the pool
-pub record Claiming (n pool : ℕ) (f : ℕ → ℕ) (total h : ℕ) : Type 0 where
-  pub inside : h ≤ n
-  pub sum : total ≡ sum_to h f
-  pub within : total ≤ pool
+-- the word of holder h on intertie i in its row of a table
+pub word-in_row : (i H h : ℕ) (rows : List (List ℕ)) (claims : List ℕ) → rows ≡ first_chunks 48 (length claims / 48) claims → InTable i H claims → h < H →
+    at (get_or rows h []) i ≡ at_pair claims h i
+word-in_row i H h rows claims e t l =
+    ap (λ r. at (get_or r h []) i) e ∙ at-row 48 (length claims / 48) h i claims (omega (arith, t.holders, t.whole)) t.intertie
 
-module _ (n pool : ℕ) (f : ℕ → ℕ) where
-  pub claiming-none : Claiming n pool f 0 0
-  claiming-none = record { inside = zero-le; sum = sym (sum_to-zero f); within = zero-le }
+-- and in a row of the first H holders
+pub claim-in_row : (i H h : ℕ) (rows : List (List ℕ)) (claims : List ℕ) → rows ≡ first_chunks 48 (length claims / 48) claims → InTable i H claims → h < H →
+    at (get_or (take H rows) h []) i ≡ at_pair claims h i
+claim-in_row i H h rows claims e t l =
+    ap (λ row. at row i) (get_or-take H rows h [] l) ∙ word-in_row i H h rows claims e t l
 
-  pub claiming-next : (total h : ℕ) → Claiming n pool f total h → h < n → f h + total ≤ pool → Claiming n pool f (total + f h) (h + 1)
-  claiming-next total h s l fit = record { inside = omega arith; sum = rw s.sum (sym (sum_to-more h f)); within = omega arith }
+-- after h claims: what they leave of the pool
+pub record Claiming (pool : ℕ) (f : ℕ → ℕ) (left h : ℕ) : Type 0 where
+  pub sum : pool ≡ left + sum_to h f
 
-  -- a claim that exceeds what is left of the pool
-  pub claiming-over : (total h : ℕ) → Claiming n pool f total h → h < n → pool < f h + total → pool + 1 ≡ min (pool + 1) (sum_to n f)
-  claiming-over total h s l more =
-      let all : pool + 1 ≤ sum_to n f = omega (arith, s.sum, sum_to-more h f, sum_to-mono (h + 1) n f (omega arith)) in
-      sym (min-eq_left all)
+module _ (pool : ℕ) (f : ℕ → ℕ) where
+  pub claiming-none : Claiming pool f pool 0
+  claiming-none = record { sum = omega (arith, sum_to-zero f) }
+
+  module _ (left h x : ℕ) (r : Option ℕ) (s : Claiming pool f left h) (test : SomeIff r (x ≤ left) (left - x)) (is : x ≡ f h) where
+    pub claiming-next : (next : ℕ) → r ≡ Some next → Claiming pool f next (h + 1)
+    claiming-next next e =
+        let fit : (x ≤ left) × (next ≡ left - x) = subst (λ o. SomeIff o (x ≤ left) (left - x)) e test in
+        record { sum = omega (arith, fit.0, fit.1, is, s.sum, sum_to-more h f) }
+
+    -- a claim that exceeds what is left of the pool
+    pub claiming-over : (n : ℕ) (o : Option ℕ) → r ≡ None → h < n → o ≡ None → SomeIff o (sum_to n f ≤ pool) (sum_to n f)
+    claiming-over n o e l none =
+        let over : x ≤ left → ⊥ = subst (λ o. SomeIff o (x ≤ left) (left - x)) e test in
+        rw none (λ within. over (omega (arith, within, is, s.sum, sum_to-more h f, sum_to-mono (h + 1) n f (omega arith))))
 
 -- claims together within the pool are met whole
 pub met-on : (i H total : ℕ) (pools claims weights grants after : List ℕ) → H ≤ 32 → at pools i ≤ 20000000 →
-    all_to H (λ h. leb (at weights h) 100000000) ≡ true → total ≡ min (at pools i + 1) (sum_to H (λ h. at_pair claims h i)) → total ≤ at pools i →
+    all_to H (λ h. leb (at weights h) 100000000) ≡ true → (sum_to H (λ h. at_pair claims h i) ≤ at pools i) × (total ≡ sum_to H (λ h. at_pair claims h i)) →
     after ≡ fill_column i H (λ h. at_pair claims h i) grants →
     SharedOn i H pools claims weights grants (record { kw = total; passes = 0 }) after
-met-on i H total pools claims weights grants after few small light t fit a =
-    let all : total ≡ sum_to H (λ h. at_pair claims h i) = omega arith in
-    let within : sum_to H (λ h. at_pair claims h i) ≤ at pools i = omega arith in
+met-on i H total pools claims weights grants after few small light t a =
+    let all : total ≡ sum_to H (λ h. at_pair claims h i) = t.1 in
+    let within : sum_to H (λ h. at_pair claims h i) ≤ at pools i = t.0 in
     let ranged : Ranged H (at pools i) (λ h. at_pair claims h i) (at weights) =
     record {
       few = few;

@@ -2,10 +2,10 @@
 // (docs/RULES.md, "Opening" and "Calls of the year").
 #![tactic(auto)]
 
-ghost use Rattle.std.specs.Prelude.{◌≡◌, ◌+◌, ◌≤◌, ◌<◌, min, leb, eqb, length};
+ghost use Rattle.std.specs.Prelude.{◌≡◌, ◌≤◌, ◌<◌, leb, eqb, length, SomeIff};
 ghost use Rattle.base.specs.Answers.{granted};
 ghost use Rattle.base.specs.Choice.{pick};
-ghost use Rattle.base.specs.Limits.{most_kw, most_load_share, most_interties, most_holders, most_pairs};
+ghost use Rattle.base.specs.Limits.{most_load_share, most_interties, most_holders, most_pairs};
 ghost use Rattle.base.specs.Refused.{answer_of};
 ghost use Rattle.base.specs.Sums.{sum_to, all_to};
 ghost use Rattle.base.specs.Words.{at, tab};
@@ -39,8 +39,9 @@ fn gather(table: &[u64], intertie: usize, words: &mut [u64])
     requires { InTable intertie (length words.old) table.now }
     ensures { words.new ≡ column table.now (length words.old) intertie }
 {
+    let (rows, _) = table.as_chunks::<MOST_INTERTIES>();
     for (h, word) in words.iter_mut().enumerate() {
-        *word = table[MOST_INTERTIES * h + intertie];
+        *word = rows[h][intertie];
     }
 }
 
@@ -59,7 +60,7 @@ fn settle(made: Result<Granted, Refusal>, output: &mut [u64]) -> Granted
     }
 }
 
-// Scatters the holders' words over an intertie of a table.
+// Scatters the holders' words over an intertie of a table. (By place: of `as_chunks_mut` nothing is said of what the slice ends as.)
 fn scatter(words: &[u64], intertie: usize, table: &mut [u64])
     requires { InTable intertie (length words.now) table.old }
     ensures { let words = words.now in
@@ -70,30 +71,29 @@ fn scatter(words: &[u64], intertie: usize, table: &mut [u64])
     }
 }
 
-// The claims on an intertie together, or one more than its pool where they exceed it.
-fn claimed_on(pool: u64, claims: &[u64], intertie: usize, holders: usize) -> u64
-    requires { InTable intertie holders claims.now × (pool ≤ most_kw) }
-    ensures { result ≡ min (pool + 1) (sum_to holders (λ h. at_pair claims.now h intertie)) }
+// The claims on an intertie together, or none where they exceed its pool.
+fn claimed_on(pool: u64, claims: &[u64], intertie: usize, holders: usize) -> Option<u64>
+    requires { InTable intertie holders claims.now }
+    ensures { let claimed = sum_to holders (λ h. at_pair claims.now h intertie) in
+        SomeIff result (claimed ≤ pool) claimed }
 {
-    let mut total = 0;
-    for h in 0..holders {
-        let claim = claims[MOST_INTERTIES * h + intertie];
-        if pool - total < claim {
-            return pool + 1;
-        }
-        total += claim;
+    let (rows, _) = claims.as_chunks::<MOST_INTERTIES>();
+    let mut left = pool;
+    for row in &rows[..holders] {
+        left = left.checked_sub(row[intertie])?;
     }
-    total
+    Some(pool - left)
 }
 
-// Grants each claim on an intertie whole.
+// Grants each claim on an intertie whole. (By place, as in `scatter`.)
 fn grant_claims(claims: &[u64], intertie: usize, holders: usize, grants: &mut [u64])
     requires { InTable intertie holders claims.now × InTable intertie holders grants.old }
     ensures { let claim = at_pair claims.now in
         grants.new ≡ fill_column intertie holders (λ h. claim h intertie) grants.old }
 {
-    for h in 0..holders {
-        grants[MOST_INTERTIES * h + intertie] = claims[MOST_INTERTIES * h + intertie];
+    let (rows, _) = claims.as_chunks::<MOST_INTERTIES>();
+    for (h, row) in rows[..holders].iter().enumerate() {
+        grants[MOST_INTERTIES * h + intertie] = row[intertie];
     }
 }
 
@@ -154,13 +154,9 @@ impl Claims<'_> {
     {
         let pool = self.pools[intertie];
         if self.weighable & (pool <= MOST_KW) {
-            let total = claimed_on(pool, self.claims, intertie, self.holders);
-            if total <= pool {
+            if let Some(kw) = claimed_on(pool, self.claims, intertie, self.holders) {
                 grant_claims(self.claims, intertie, self.holders, grants);
-                return Granted {
-                    kw: total,
-                    passes: 0,
-                };
+                return Granted { kw, passes: 0 };
             }
         }
         self.share_out_gathered(intertie, claimed, output, grants)

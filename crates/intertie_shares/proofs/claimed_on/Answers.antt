@@ -1,14 +1,21 @@
-use Rattle.base.proofs.Prelude.{arith, rules}
-use Rattle.intertie_shares.proofs.LoopLaws.{claiming-none, claiming-next, claiming-over}
+use Rattle.base.proofs.Prelude.{◌≡◌, ◌<◌, rules}
+use Rattle.std.specs.Prelude.{Some, None}
+use Rattle.intertie_shares.proofs.LoopLaws.{claim-in_row, claiming-none, claiming-next, claiming-over}
 use Rattle.intertie_shares.proofs.claimed_on.Goals as goal
 
-pub loop-h-init : goal.loop-h-init
-loop-h-init c = search (rules, claiming-none)
+pub loop-row-init : goal.loop-row-init
+loop-row-init c = search (rules, claiming-none)
 
-pub returns-then-pool-total : goal.returns-then-pool-total
-returns-then-pool-total c =
-    claiming-over _ _ _ _ _ c.loop-h.invariant c.loop-h-test.true (omega arith)
+pub returns-in_err-left : goal.returns-in_err-left
+returns-in_err-left c =
+    let before : c.loop-row.row-index < c.args.holders = search rules in
+    let none : c.checked_sub.result ≡ None = search rules in
+    claiming-over _ _ _ _ _ _ c.loop-row.invariant c.checked_sub.ensures
+    (claim-in_row _ _ _ _ _ c.as_chunks.ensures.front c.requires before) _ _ none before (search rules)
 
-pub loop-h-preserved : goal.loop-h-preserved
-loop-h-preserved c =
-    claiming-next _ _ _ _ _ c.loop-h.invariant c.loop-h-test.true (omega arith)
+pub loop-row-preserved : goal.loop-row-preserved
+loop-row-preserved c =
+    let before : c.loop-row.row-index < c.args.holders = search rules in
+    let some : c.checked_sub.result ≡ Some c.in_ok-left.left = search rules in
+    claiming-next _ _ _ _ _ _ c.loop-row.invariant c.checked_sub.ensures
+    (claim-in_row _ _ _ _ _ c.as_chunks.ensures.front c.requires before) _ some

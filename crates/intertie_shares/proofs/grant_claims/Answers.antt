@@ -1,9 +1,11 @@
-use Rattle.base.proofs.Prelude.{rules}
-use Rattle.intertie_shares.proofs.LoopLaws.{scattered-none, scattered-next}
+use Rattle.base.proofs.Prelude.{◌<◌, rules}
+use Rattle.intertie_shares.proofs.LoopLaws.{claim-in_row, scattered-none, scattered-next}
 use Rattle.intertie_shares.proofs.grant_claims.Goals as goal
 
 pub loop-h-init : goal.loop-h-init
 loop-h-init c = search (rules, scattered-none)
 
 pub loop-h-preserved : goal.loop-h-preserved
-loop-h-preserved c = search (rules, scattered-next)
+loop-h-preserved c =
+    let before : c.loop-h.h < c.args.holders = search rules in
+    scattered-next _ _ _ _ _ _ _ c.loop-h.invariant before (claim-in_row _ _ _ _ _ c.as_chunks.ensures.front c.requires.0 before)

@@ -5,11 +5,10 @@ use Rattle.base.proofs.ChoiceLaws.{and_left, and_right}
 use Rattle.intertie_shares.proofs.LoopLaws.{met-on}
 use Rattle.intertie_shares.proofs.Claims.share_out_on.Goals as goal
 
-pub returns-then-total-pool : goal.returns-then-total-pool
-returns-then-total-pool c =
+pub returns-in-Some : goal.returns-in-Some
+returns-in-Some c =
     let given = c.args.self in
     let kw = at given.pools.now c.args.intertie in
     let both = c.if-self-pool.true in
     met-on _ _ _ _ _ _ _ _ given.few_holders (leb-true kw 20000000 (and_right given.weighable (leb kw 20000000) both))
-    (sym given.light ∙ and_left given.weighable (leb kw 20000000) both) c.claimed_on-total.ensures
-    c.if-total-pool.true c.grant_claims.ensures
+    (sym given.light ∙ and_left given.weighable (leb kw 20000000) both) c.in-Some.ensures c.grant_claims.ensures
