@@ -100,6 +100,8 @@ kw_turn n f kw x e t =
     ∙ add-mod-mod (sum_to n f) (f n) (2 ^ 32)
     ∙ ap (λ (k : ℕ). k % 2 ^ 32) (sym (sum_to-more n f))
 
+pub ruleset turns = (bits_turn, kw_turn)
+
 -- kW added to the sums of n interties, in 32 bits
 sums-turn :
     (sums next : List ℕ) (n : ℕ) (kw before : ℕ → ℕ)

@@ -1,6 +1,6 @@
 -- Why the parts of the check, put together, say what "Orderly" says.
 use Rattle.std.proofs.Common.{◌≡◌, ℕ, zero, suc, ◌+◌, ◌-◌, ◌*◌, ◌/◌, ◌^◌, ◌<◌, ◌≤◌, Bool, true, false, not, ◌&&◌, eqb, ltb, leb, List, length, sym, refl, ap, ◌∙◌, arith, lt_of_le_ones, ltb-true, lt-ltb, le-ltb, le-leb, leb-true}
-use mathlib.Core.Bool.{beq, and_assoc, and_comm, and-true}
+use mathlib.Core.Bool.{and_assoc, and_comm, and-true}
 use lib.Bits.{bit_or}
 use lib.Dec.{leb-zero, leb-suc-zero, eqb-suc-zero}
 use lib.Pow.{ones_split, ones_lt, le_ones, high}
@@ -18,18 +18,6 @@ use Rattle.base.proofs.TestLaws.{or-none}
 use Rattle.state.specs.Layout.{interties, holders, load_share_of, step5_share_of, step7_total_of, reserved_of, unplaced_of, sellers_of, takings_of, placed_of, locked_of, term_of, pending_of, of_holder, stage_of}
 use Rattle.state.specs.Orderly.{orderly, state_refusal, sizes_in_range, stage_in_range, limits_in_range, load_shares_in_range, balanced, locked_within_placed, pending_within_unplaced, kw_in_range, takings_in_range, sellers_are_holders, terms_fit, term_fits, no_requests}
 use Rattle.orderly.specs.Workers.Check.{Fit, Sized, fields_in_range, rows_in_order, lock_fits, pair_lock_fits, unlocked, most_pending}
-
--- a term at most 30, and 0 exactly where nothing is locked
-term-test : (locked term : ℕ) → (leb term 30 && beq (eqb locked 0) (eqb term 0)) ≡ term_fits locked term
-term-test zero zero = refl
-term-test zero (suc t) = rw eqb-suc-zero (and-false (leb (suc t) 30) false refl)
-term-test (suc l) zero =
-    let some : ltb 0 (suc l) ≡ true = lt-ltb 0 (suc l) (omega arith) in
-    rw (eqb-suc-zero, some)
-term-test (suc l) (suc t) =
-    let some : ltb 0 (suc l) ≡ true = lt-ltb 0 (suc l) (omega arith) in
-    let one : leb 1 (suc t) ≡ true = le-leb 1 (suc t) (omega arith) in
-    rw (eqb-suc-zero l, eqb-suc-zero t, some, one) (and-true (leb (suc t) 30))
 
 -- locked and terms of every pair together
 pub locks_are : (s : List ℕ) → all_to (holders s) (λ h. all_to (interties s) (λ i. pair_lock_fits s h i)) ≡ (locked_within_placed s && terms_fit s)

@@ -45,7 +45,7 @@ fn pair_kw(rows: &Rows, holder: u32, intertie: usize) -> Kw
 }
 
 // The kW of the pairs of N holders, from one of them on, on an intertie.
-#[tactic(auto, using(crate::proofs::BalanceLaws::kw_turn, crate::proofs::BalanceLaws::bits_turn), unfolding(base::specs::Sums::sum_to, base::specs::Sums::all_to))]
+#[tactic(auto, using(crate::proofs::BalanceLaws::turns), unfolding(base::specs::Sums::sum_to, base::specs::Sums::all_to))]
 fn kw_of<const N: u32>(rows: &Rows, holder: u32, intertie: usize) -> Kw
     requires { (holder + N ≤ most_holders) × (intertie < most_interties) }
     ensures { let s = rows.now in
