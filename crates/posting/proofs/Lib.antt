@@ -1,3 +1,4 @@
+pub mod RowParts
 pub mod PostLaws
 pub mod PostedRows
 pub mod Examples

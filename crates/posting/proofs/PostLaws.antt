@@ -126,11 +126,11 @@ module _ (sheet after quantities : List ℕ) (outcome : Result Granted Refusal) 
           let v = valid-sheet sheet stands in
           rw i-is v.interties-most
 
-      pub post-lines : (l m n : List ℕ) → m ≡ interties_from I (holders after) after l → n ≡ holders_from H after quantities m →
+      pub post-lines : (l m n : List ℕ) → m ≡ interties_from I H after l → n ≡ holders_from H after quantities m →
           (granted total.kw total.passes ≡ (posted sheet l).answer) × (n ≡ (posted sheet l).lines)
       post-lines l m n p q =
           let done = post-done sheet l stands in
-          let first : m ≡ intertie_lines (of_sheet sheet) l = p ∙ interties-same (of_sheet sheet) after l post-state I (holders after) i-is post-state.holders-are in (
+          let first : m ≡ intertie_lines (of_sheet sheet) l = p ∙ interties-same (of_sheet sheet) after l post-state I H i-is h-is in (
             post-answer ∙ sym (ap (λ (o : Posted). o.answer) done),
             q ∙ holders-same (of_sheet sheet) after l post-state I H i-is h-is quantities found-are m
                 ∙ ap (holder_lines (of_sheet sheet)) first ∙ sym (ap (λ (o : Posted). o.lines) done),

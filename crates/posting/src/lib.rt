@@ -21,9 +21,9 @@ pub fn post(sheet: &[u8], lines: &mut [u64; NUMBERS]) -> Result<Granted, Refusal
     let mut state = [0u32; STATE_WORDS];
     let mut quantities = [0u64; MOST_HOLDERS];
     let granted = opening::open_with_quantities(sheet, &mut state, &mut quantities)?;
-    let interties = state::intertie_count(&state);
-    let holders = state::holder_count(&state);
-    lines::intertie_lines(&state, interties, lines);
+    let interties = state::intertie_count(&state) as usize;
+    let holders = state::holder_count(&state) as usize;
+    lines::intertie_lines(&state, interties, holders, lines);
     lines::holder_lines(&state, &quantities, holders, lines);
     Ok(granted)
 }

@@ -12,6 +12,7 @@ use Rattle.base.specs.declared.Answer.{Answer}
 use Rattle.base.specs.declared.Granted.{Granted}
 use Rattle.base.specs.declared.refusals.Refusal.{Refusal}
 use Rattle.base.specs.Refused.{number_of, answer_of}
+use Rattle.base.specs.Words.{tab}
 use Rattle.base.proofs.RefusedLaws.{numbered}
 use Rattle.base.proofs.ChoiceLaws.{pick-by}
 use Rattle.sheet_records.specs.Sheet.{interties, holders}
@@ -26,18 +27,18 @@ use Rattle.text.specs.Written.{appended}
 use Rattle.text.specs.Lines.{blank, bounded_line, each}
 use Rattle.text.proofs.PutLaws.{appended-fits}
 use Rattle.text.proofs.EachLaws.{length-each, each_same}
-use Rattle.posting_text.specs.Text.{letter_t, letter_r, line, intertie_line, holder_line, posting_text, refusal_line, text_of}
+use Rattle.posting_text.specs.Text.{letter_t, letter_i, letter_r, line, intertie_line, holder_line, posting_text, refusal_line, text_of}
 use Rattle.posting_text.specs.Workers.Columns.{intertie_by_rows, holder_by_rows, lines_text, fresh}
-use Rattle.posting_text.proofs.TextLaws.{length-short, intertie-few}
+use Rattle.posting_text.proofs.TextLaws.{length-short, rows-few}
 
 -- rows that have a posting's figures
 module _ (y : Inputs) (l : List ℕ) (r : Rows y l) where
   intertie-same : (i : ℕ) → i < y.interties → intertie_by_rows l i ≡ intertie_line y i
-  unfolding intertie_by_rows
+  unfolding intertie_by_rows tab
   intertie-same i k = rw (r.limit i k, r.outside i k, r.existing i k, r.pre-ra i k, r.new-use i k, r.unassigned-is i k) refl
 
   holder-same : (h : ℕ) → h < y.holders → holder_by_rows l h ≡ holder_line y h
-  unfolding holder_by_rows
+  unfolding holder_by_rows tab
   holder-same h k = rw (r.load-share h k, r.quantity h k, r.reserved h k, r.step5-share h k) refl
 
   -- their text is the posting's
@@ -119,6 +120,7 @@ module _ (s : List ℕ) where
 
           module _ (a : List ℕ) (second : a ≡ t ++ each I (intertie_by_rows numbers)) where
             pub holders-room : length a + 149 * H ≤ 12069
+            unfolding intertie_by_rows
             holders-room =
                 omega (
                   arith,
@@ -126,7 +128,7 @@ module _ (s : List ℕ) where
                   length-short letter_t total.kw,
                   ap length second,
                   length-append t (each I (intertie_by_rows numbers)),
-                  length-each I 149 (intertie_by_rows numbers) (intertie-few numbers),
+                  length-each I 149 (intertie_by_rows numbers) (rows-few numbers 0 letter_i 6 (omega arith)),
                   few-interties,
                   few-holders,
                 )

@@ -12,7 +12,11 @@ returns-in_err-granted c =
 pub intertie_lines-requires : goal.intertie_lines-requires
 intertie_lines-requires c =
     let e = c.open_with_quantities.ensures in
-    post-interties _ _ _ _ e.0 e.1 e.2 _ c.in_ok-granted.was _ _ c.intertie_count-interties.ensures c.holder_count-holders.ensures
+    let i = c.intertie_count-interties.ensures in
+    let h = c.holder_count-holders.ensures in (
+      post-interties _ _ _ _ e.0 e.1 e.2 _ c.in_ok-granted.was _ _ i h,
+      post-holders _ _ _ _ e.0 e.1 e.2 _ c.in_ok-granted.was _ _ i h,
+    )
 
 pub holder_lines-requires : goal.holder_lines-requires
 holder_lines-requires c =

@@ -1,10 +1,9 @@
 -- A posting's text by its rows of numbers, as the code writes it.
-use Rattle.std.specs.Prelude.{ℕ, List, [], ◌∷◌, ◌++◌, replicate}
-use Rattle.base.specs.Words.{at}
+use Rattle.std.specs.Prelude.{ℕ, ◌+◌, List, [], ◌∷◌, ◌++◌, replicate}
+use Rattle.base.specs.Words.{at, tab}
 use Rattle.text.specs.Lines.{each}
 use Rattle.state.specs.Layout.{place}
-use Rattle.posting.specs.Rows.{limit_line, outside_line, existing_line, pre_ra_line, new_use_line, unassigned_line}
-use Rattle.posting.specs.Rows.{load_share_line, quantity_line, reserved_line, step5_share_line, posting_numbers}
+use Rattle.posting.specs.Rows.{limit_line, load_share_line, posting_numbers}
 use Rattle.posting.specs.Post.{Posted, posted}
 use Rattle.posting_text.specs.Text.{letter_t, letter_i, letter_h, line}
 
@@ -15,32 +14,21 @@ long_bytes = 149
 abbrev pub text_bytes : ℕ
 text_bytes = 12069
 
-module _ (l : List ℕ) where
-  -- the line of intertie i
-  unfoldable pub intertie_by_rows : ℕ → List ℕ
-  intertie_by_rows i =
-      line letter_i (
-      i
-      ∷ at l (place limit_line i)
-      ∷ at l (place outside_line i)
-      ∷ at l (place existing_line i)
-      ∷ at l (place pre_ra_line i)
-      ∷ at l (place new_use_line i)
-      ∷ at l (place unassigned_line i)
-      ∷ []
-      )
+-- the most rows that have figures of one line
+abbrev pub line_rows : ℕ
+line_rows = 6
 
-  -- the line of holder h
+module _ (l : List ℕ) where
+  -- a line of intertie or holder n: a letter, n, and the figure of n in each of so many rows from one on
+  abbrev pub by_rows : ℕ → ℕ → ℕ → ℕ → List ℕ
+  by_rows letter first count n = line letter (n ∷ tab count (λ r. at l (place (first + r) n)))
+
+  -- the line of intertie i, and that of holder h
+  unfoldable pub intertie_by_rows : ℕ → List ℕ
+  intertie_by_rows i = by_rows letter_i limit_line 6 i
+
   unfoldable pub holder_by_rows : ℕ → List ℕ
-  holder_by_rows h =
-      line letter_h (
-      h
-      ∷ at l (place load_share_line h)
-      ∷ at l (place quantity_line h)
-      ∷ at l (place reserved_line h)
-      ∷ at l (place step5_share_line h)
-      ∷ []
-      )
+  holder_by_rows h = by_rows letter_h load_share_line 4 h
 
 -- T, then the lines of I interties and of H holders
 unfoldable pub lines_text : ℕ → ℕ → ℕ → List ℕ → List ℕ

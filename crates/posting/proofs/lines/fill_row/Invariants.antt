@@ -1,8 +1,8 @@
--- `fill_row` meets its contract: after so many turns the first columns have their figures, whatever these are.
+-- `fill_row` meets its contract: after so many turns the first columns of the part have their figures, whatever these are.
 use Rattle.base.proofs.Prelude.{ℕ, ◌<◌, ◌≡◌}
-use Rattle.state_rows.specs.Rows.{fill_row}
+use Rattle.base.proofs.VectorLaws.{Filling}
 use Rattle.posting.proofs.lines.fill_row.Given as goal
 
 abbrev pub invariant-loop-column : goal.invariant-loop-column
 invariant-loop-column g l =
-    (f : ℕ → ℕ) → ((c r : ℕ) → c < l.count → goal.F-post g l.figure c r → r ≡ f c) → l.lines ≡ fill_row l.row l.column f l.initial.lines
+    (f : ℕ → ℕ) → ((c r : ℕ) → c < l.count → goal.F-post g l.figure c r → r ≡ f c) → Filling f l.initial.number-items l.number-items l.column
