@@ -1,5 +1,6 @@
 -- What `post` answers of a sheet with existing contracts alone, by the figures of its records, whatever stood in the ten rows
--- before; and so of case i (docs/RULES.md, "Examples").
+-- before; and so of case i (docs/RULES.md, "Examples"). (The operator's table, in examples' Filing, is another sheet: what both
+-- share stands here, and each has its own figures.)
 use Prim.Native.Nat.{ℕ, ◌+◌, ◌-◌, ◌*◌, ◌/◌, ◌%◌, ◌≤◌, ◌<◌, min}
 use mathlib.Core.Path.{◌≡◌, refl, sym, ap, ◌∙◌}
 use mathlib.Core.List.{List, [], ◌∷◌, ◌++◌, map}

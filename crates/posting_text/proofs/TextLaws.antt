@@ -1,5 +1,5 @@
 -- How long the lines are, and the figures of one.
-use Rattle.base.proofs.Prelude.{ℕ, zero, suc, ◌+◌, ◌-◌, ◌*◌, ◌≤◌, ◌≡◌, refl, sym, ap, ◌∙◌, List, [], ◌∷◌, ◌++◌, arith, length, at, tab}
+use Rattle.base.proofs.Prelude.{ℕ, zero, suc, ◌+◌, ◌-◌, ◌≤◌, ◌≡◌, refl, sym, ap, ◌∙◌, List, [], ◌∷◌, ◌++◌, arith, length, at, tab}
 use Rattle.base.proofs.WordLaws.{length-tab}
 use Rattle.state.specs.Layout.{place}
 use Rattle.text.specs.Written.{appended}

@@ -36,8 +36,22 @@ pub fn posting_text(sheet: &[u8]) -> ArrayVec<u8, TEXT_BYTES>
             let interties = sheet_records::words::intertie_count(sheet) as usize;
             let holders = sheet_records::words::holder_count(sheet) as usize;
             put_line(b"T", b' ', &[total.kw], &mut text);
-            put_lines(b'I', rows::LIMIT, rows::LOAD_SHARE, interties, &numbers, &mut text);
-            put_lines(b'H', rows::LOAD_SHARE, rows::ROWS, holders, &numbers, &mut text);
+            put_lines(
+                b'I',
+                rows::LIMIT,
+                rows::LOAD_SHARE,
+                interties,
+                &numbers,
+                &mut text,
+            );
+            put_lines(
+                b'H',
+                rows::LOAD_SHARE,
+                rows::ROWS,
+                holders,
+                &numbers,
+                &mut text,
+            );
         }
         Err(refusal) => {
             put_line(b"R", b' ', &[u64::from(refusal.number())], &mut text);
