@@ -1,4 +1,4 @@
-use Rattle.base.proofs.Prelude.{◌≡◌, sym, ap, ◌∙◌, arith, rules, sum_to}
+use Rattle.base.proofs.Prelude.{sym, arith, rules}
 use Rattle.base.proofs.SumLaws.{sum_to-zero, sum_to-more}
 use Rattle.state.proofs.of_holder.Invariants.{pairs}
 use Rattle.state.proofs.of_holder.Goals as goal
@@ -14,9 +14,3 @@ loop-intertie-preserved c =
       omega (arith, c.loop-intertie.invariant.0, c.pair_word.ensures, sum_to-more c.loop-intertie.intertie (pairs a.state.now a.field a.holder)),
       search rules,
     )
-
-pub returns : goal.returns
-returns c =
-    let a = c.args in
-    let end : c.loop-intertie.intertie ≡ c.intertie_count-intertie-end.result = omega arith in
-    c.loop-intertie.invariant.0 ∙ ap (λ n. sum_to n (pairs a.state.now a.field a.holder)) (end ∙ c.intertie_count-intertie-end.ensures)
