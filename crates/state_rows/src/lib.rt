@@ -72,7 +72,8 @@ impl Change for Cleared {
     }
 }
 
-// Changes the first columns of a row by a table, from one of its places on.
+// Changes the first columns of a row by a table, from one of its places on. (By an index: what is said is of the state's own places,
+// and a row lent by itself would have to be put back among them.)
 #[tactic(auto, unfolding(crate::specs::Rows::fill_row))]
 fn change_row<C: Change>(state: &mut [u32], row: usize, count: usize, table: &C, from: usize)
     requires { (state_words ≤ length state.old) × (row < whole_rows) × (count ≤ row_words) × (from + count ≤ C.places table.now)
