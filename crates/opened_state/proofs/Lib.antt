@@ -1,1 +1,3 @@
 pub mod StoreLaws
+pub mod FrontLaws
+pub mod WriteLaws

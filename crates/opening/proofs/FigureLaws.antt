@@ -1,6 +1,6 @@
 -- The rows of Steps 5 to 7, as the code finds them.
 use Prim.Native.Nat.{ℕ, ◌+◌, ◌-◌, ◌*◌, ◌%◌, ◌^◌, ◌≤◌, ◌<◌}
-use mathlib.Core.Path.{◌≡◌, sym, ap, ◌∙◌}
+use mathlib.Core.Path.{◌≡◌, refl, sym, ap, ◌∙◌}
 use mathlib.Core.List.{List, ◌++◌}
 use native.Mathlib.Nat.{mod-eq_of_lt}
 use native.Mathlib.Omega.{arith}
@@ -11,7 +11,8 @@ use Rattle.base.specs.Words.{at, tab}
 use Rattle.base.proofs.SumLaws.{sum_to-same, sum_to-term, sum_to-bound}
 use Rattle.base.proofs.VectorLaws.{sum-part}
 use Rattle.base.proofs.WordLaws.{at-tab, length-tab}
-use Rattle.sheet_reading.specs.Tables.{load_share_slot}
+use Rattle.sheet_reading.specs.Tables.{load_share_slot, existing_slot}
+use Rattle.intertie_shares.specs.Pairs.{pair_at}
 use Rattle.step_5.specs.Shares.{step5_shares}
 use Rattle.step_5.specs.Outcome.{step5}
 use Rattle.step_5.specs.Workers.Fit.{Accepted}
@@ -21,7 +22,7 @@ use Rattle.steps_2_to_4.proofs.ClaimLaws.{mid-tab}
 use Rattle.opening.specs.Workers.Figures.{held_from, HeldGiven, HeldTaken}
 
 -- the sum of a part of a table
-pub part-sum : (r a e I : ℕ) (l : List ℕ) → r ≡ sum_to (length (mid_of a (e - a) l)) (at (mid_of a (e - a) l)) % 2 ^ 64 →
+part-sum : (r a e I : ℕ) (l : List ℕ) → r ≡ sum_to (length (mid_of a (e - a) l)) (at (mid_of a (e - a) l)) % 2 ^ 64 →
     e ≡ a + I → e ≤ length l → I ≤ 48 → ((c : ℕ) → c < I → at l (a + c) ≤ 20000000) → (r ≡ sum_to I (λ c. at l (a + c))) × (r ≤ 960000000)
 part-sum r a e I l is end inside few most =
     let small : sum_to I (λ c. at l (a + c)) ≤ I * 20000000 = sum_to-bound I 20000000 (λ c. at l (a + c)) most in
@@ -32,6 +33,23 @@ part-sum r a e I l is end inside few most =
 module _ (total : ℕ) (kw : List ℕ) (I H : ℕ) (pre_ra new_use : List ℕ) (g : HeldGiven total kw I H pre_ra new_use) (slots : length kw ≡ 12481) where
   abbrev hold : ℕ → ℕ
   hold = held_from I kw pre_ra new_use
+
+  -- the three sums along a holder's rows, each of which fits
+  module _ (h r : ℕ) (l : h < H) where
+    pub existing-sum : r ≡ sum_to (length (mid_of (192 + 64 * h) (192 + 64 * h + I - (192 + 64 * h)) kw)) (at (mid_of (192 + 64 * h) (192 + 64 * h + I - (192 + 64 * h)) kw)) % 2 ^ 64 →
+        (r ≡ sum_to I (λ i. at kw (existing_slot h i))) × (r ≤ 960000000)
+    existing-sum e =
+        part-sum r (192 + 64 * h) (192 + 64 * h + I) I kw e refl (omega (arith, g.small, g.few)) g.few (λ i m. g.existing-most h i l m)
+
+    pub pre-ra-sum : r ≡ sum_to (length (mid_of (48 * h) (48 * h + I - 48 * h) pre_ra)) (at (mid_of (48 * h) (48 * h + I - 48 * h) pre_ra)) % 2 ^ 64 →
+        length pre_ra ≡ 1536 → (r ≡ sum_to I (λ i. at pre_ra (pair_at h i))) × (r ≤ 960000000)
+    pre-ra-sum e long =
+        part-sum r (48 * h) (48 * h + I) I pre_ra e refl (omega (arith, g.small, g.few)) g.few (λ i m. g.pre-ra-most h i l m)
+
+    pub new-use-sum : r ≡ sum_to (length (mid_of (48 * h) (48 * h + I - 48 * h) new_use)) (at (mid_of (48 * h) (48 * h + I - 48 * h) new_use)) % 2 ^ 64 →
+        length new_use ≡ 1536 → (r ≡ sum_to I (λ i. at new_use (pair_at h i))) × (r ≤ 960000000)
+    new-use-sum e long =
+        part-sum r (48 * h) (48 * h + I) I new_use e refl (omega (arith, g.small, g.few)) g.few (λ i m. g.new-use-most h i l m)
 
   -- the load shares
   abbrev load_shares : List ℕ

@@ -6,44 +6,42 @@ ghost use Rattle.opening.specs.Workers.Figures.{held_from, HeldGiven, HeldTaken}
 
 use base::limits::{MOST_HOLDERS, MOST_INTERTIES, MOST_PAIRS};
 use base::vectors::sum_of;
-use sheet_reading::tables::{EXISTING, HOLDER_INTERTIES, LOAD_SHARES, Tables};
+use sheet_reading::tables::{EXISTING, HOLDER_INTERTIES, LOAD_SHARES, Read};
 
-// What Steps 5 to 7 are made over: T, the tables of a sheet, how many interties and holders it has, and P and N of every pair.
+// What Steps 5 to 7 are made over: T, what was read of a sheet, and P and N of every pair.
 // E, P and N of a pair are each at most what a record may have, and the holders together hold at most T.
 #[derive(Clone, Copy)]
 pub(super) struct Reserves<'a> {
     pub(super) total: u64,
-    pub(super) tables: &'a Tables,
-    pub(super) interties: usize,
-    pub(super) holders: usize,
+    pub(super) read: Read<'a>,
     pub(super) pre_ra: &'a [u64; MOST_PAIRS],
     pub(super) new_use: &'a [u64; MOST_PAIRS],
-    ghost given: { HeldGiven total tables.now.kw interties holders pre_ra.now new_use.now },
+    ghost given: { HeldGiven total read.tables.now.kw read.interties read.holders pre_ra.now new_use.now },
 }
 
 impl Reserves<'_> {
     // What a holder holds: all its E, P and N.
     fn held_by(self, holder: usize) -> u64
-        requires { holder < self.holders }
-        ensures { let r = self.entry in result ≡ held_from r.interties r.tables.now.kw r.pre_ra.now r.new_use.now holder }
+        requires { holder < self.read.holders }
+        ensures { let r = self.entry in result ≡ held_from r.read.interties r.read.tables.now.kw r.pre_ra.now r.new_use.now holder }
     {
-        let kw = &self.tables.kw;
+        let kw = &self.read.tables.kw;
         let pre_ra = self.pre_ra;
         let new_use = self.new_use;
         let existing = EXISTING + HOLDER_INTERTIES * holder;
-        let existing_end = existing + self.interties;
+        let existing_end = existing + self.read.interties;
         let row = MOST_INTERTIES * holder;
-        let row_end = row + self.interties;
+        let row_end = row + self.read.interties;
         sum_of(&kw[existing..existing_end])
             + sum_of(&pre_ra[row..row_end])
             + sum_of(&new_use[row..row_end])
     }
 
-    // What every holder holds.
+    // What every holder holds. (By place: what a zip of `iter_mut` lends is lost to the proof.)
     fn fill_held(self, held: &mut [u64])
-        requires { length held.old ≡ self.holders }
+        requires { length held.old ≡ self.read.holders }
         ensures { let r = self.entry in held.new
-            ≡ tab (length held.old) (held_from r.interties r.tables.now.kw r.pre_ra.now r.new_use.now) }
+            ≡ tab (length held.old) (held_from r.read.interties r.read.tables.now.kw r.pre_ra.now r.new_use.now) }
     {
         for (holder, kw) in held.iter_mut().enumerate() {
             *kw = self.held_by(holder);
@@ -51,6 +49,7 @@ impl Reserves<'_> {
     }
 
     // Steps 5 to 7: writes what each holder holds, its Step 5 share and its Step 7 total over the first words of three rows.
+    // (Lent one by one: `pre_ra` and `new_use` of the same struct are read. Step 5 isn't refused: T and what is held are in range.)
     pub(super) fn steps_5_to_7(
         self,
         held: &mut [u64; MOST_HOLDERS],
@@ -58,19 +57,20 @@ impl Reserves<'_> {
         totals: &mut [u64; MOST_HOLDERS],
     )
         ensures { let r = self.entry in
-            HeldTaken r.total r.tables.now.kw r.interties r.holders r.pre_ra.now r.new_use.now held.new shares.new totals.new }
+            HeldTaken r.total r.read.tables.now.kw r.read.interties r.read.holders r.pre_ra.now r.new_use.now
+            held.new shares.new totals.new }
     {
-        let held = &mut held[..self.holders];
-        let shares = &mut shares[..self.holders];
-        let kw = &self.tables.kw;
-        let end = LOAD_SHARES + self.holders;
+        let held = &mut held[..self.read.holders];
+        let shares = &mut shares[..self.read.holders];
+        let kw = &self.read.tables.kw;
+        let end = LOAD_SHARES + self.read.holders;
         self.fill_held(held);
         step_5::step_5_shares(self.total, held, &kw[LOAD_SHARES..end], shares);
-        fill_totals(held, shares, &mut totals[..self.holders]);
+        fill_totals(held, shares, &mut totals[..self.read.holders]);
     }
 }
 
-// Step 7: held and Step 5 share together, for every holder.
+// Step 7: held and Step 5 share together, for every holder. (By place, as `fill_held`.)
 fn fill_totals(held: &[u64], shares: &[u64], totals: &mut [u64])
     requires { (length totals.old ≤ length held.now) × (length totals.old ≤ length shares.now)
         × ((h : ℕ) → h < length totals.old → at held.now h + at shares.now h ≤ most_total_kw) }

@@ -12,7 +12,7 @@ use base::Granted;
 use base::limits::{MOST_HOLDERS, STATE_WORDS};
 use base::refusals::Refusal;
 use sheet_reading::refusal;
-use sheet_reading::tables::Tables;
+use sheet_reading::tables::{Read, Tables};
 use sheet_records::words;
 
 // Opens the year: reads the sheet, refuses it with its number or carries out Steps 2 to 7 into the
@@ -41,9 +41,12 @@ pub fn open_with_quantities(
     if state.len() < STATE_WORDS {
         return Err(Refusal::Room);
     }
-    let interties = words::intertie_count(sheet) as usize;
-    let holders = words::holder_count(sheet) as usize;
-    let total = year::steps_2_to_7(&tables, interties, holders, quantities, state);
+    let read = Read {
+        tables: &tables,
+        interties: words::intertie_count(sheet) as usize,
+        holders: words::holder_count(sheet) as usize,
+    };
+    let total = year::steps_2_to_7(read, quantities, state);
     Ok(Granted {
         kw: total,
         passes: 0,

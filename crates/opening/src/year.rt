@@ -10,20 +10,18 @@ ghost use Rattle.opening.specs.Opened.{opened_state};
 use super::figures::Reserves;
 use base::limits::{MOST_HOLDERS, MOST_INTERTIES, MOST_PAIRS};
 use opened_state::Figures;
-use sheet_reading::tables::Tables;
+use sheet_reading::tables::Read;
 
-// Carries out Steps 2 to 7 from the tables of a sheet that stands, into the state; the Load Share Quantities go over the
+// Carries out Steps 2 to 7 from what was read of a sheet that stands, into the state; the Load Share Quantities go over the
 // first words of a row. Answers T.
 pub(super) fn steps_2_to_7(
-    tables: &Tables,
-    interties: usize,
-    holders: usize,
+    read: Read<'_>,
     quantities: &mut [u64; MOST_HOLDERS],
     state: &mut [u32],
 ) -> u64
-    requires { Valid (inputs tables.now interties holders) × (state_words ≤ length state.old) }
-    ensures { let y = inputs tables.now interties holders in (result ≡ available_total y)
-        × (quantities.new ≡ fill holders (load_share_quantity y) quantities.old)
+    requires { Valid (inputs read.tables.now read.interties read.holders) × (state_words ≤ length state.old) }
+    ensures { let r = read.entry in let y = inputs r.tables.now r.interties r.holders in (result ≡ available_total y)
+        × (quantities.new ≡ fill r.holders (load_share_quantity y) quantities.old)
         × (state.new ≡ opened_state y state.old) }
 {
     let mut figures = Figures {
@@ -35,9 +33,7 @@ pub(super) fn steps_2_to_7(
         unassigned: [0; MOST_INTERTIES],
     };
     let total = steps_2_to_4::reserve(
-        tables,
-        interties,
-        holders,
+        read,
         quantities,
         &mut figures.unassigned,
         &mut figures.pre_ra,
@@ -45,13 +41,11 @@ pub(super) fn steps_2_to_7(
     );
     let reserves = Reserves {
         total,
-        tables,
-        interties,
-        holders,
+        read,
         pre_ra: &figures.pre_ra,
         new_use: &figures.new_use,
     };
     reserves.steps_5_to_7(&mut figures.held, &mut figures.shares, &mut figures.totals);
-    opened_state::write_state(state, tables, interties, holders, &figures);
+    opened_state::write_state(state, read, &figures);
     total
 }

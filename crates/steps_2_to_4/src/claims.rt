@@ -15,11 +15,11 @@ impl Sheet<'_> {
     // Step 4a: a claim is the part of Pre-RA kW above E at that pair. (By place: of `as_chunks_mut` nothing is said of what the
     // slice ends as.)
     pub(super) fn pre_ra_claims(self, claims: &mut [u64; MOST_PAIRS])
-        ensures { let y = inputs self.entry.tables.now self.entry.interties self.entry.holders in
-            Pairs self.entry.holders most_interties claims.new (pre_ra_claim y) }
+        ensures { let r = self.entry.read in let y = inputs r.tables.now r.interties r.holders in
+            Pairs r.holders most_interties claims.new (pre_ra_claim y) }
     {
-        let kw = &self.tables.kw;
-        for holder in 0..self.holders {
+        let kw = &self.read.tables.kw;
+        for holder in 0..self.read.holders {
             let row = MOST_INTERTIES * holder;
             let end = row + MOST_INTERTIES;
             let pre_ra = PRE_RA + HOLDER_INTERTIES * holder;
@@ -36,22 +36,21 @@ impl Sheet<'_> {
         granted: &[u64; MOST_PAIRS],
         row: &mut [u64],
     )
-        requires { (holder < self.holders) × (length row.old ≡ most_interties) }
-        ensures { row.new
-            ≡ (kept_from self.entry.tables.now self.entry.interties quantity granted.now holder).kept }
+        requires { (holder < self.read.holders) × (length row.old ≡ most_interties) }
+        ensures { let r = self.entry.read in row.new ≡ (kept_from r.tables.now r.interties quantity granted.now holder).kept }
     {
-        let kw = &self.tables.kw;
-        let ties = &self.tables.interties;
+        let kw = &self.read.tables.kw;
+        let ties = &self.read.tables.interties;
         let existing = EXISTING + HOLDER_INTERTIES * holder;
         let pre_ra = PRE_RA + HOLDER_INTERTIES * holder;
         let first = NEW_USE + HOLDER_RANKS * holder;
         let end = first + HOLDER_RANKS;
         let mut cover = [0u64; MOST_INTERTIES];
         vectors::differences(&kw[existing..], &kw[pre_ra..], &mut cover);
-        let existing_end = existing + self.interties;
+        let existing_end = existing + self.read.interties;
         let beyond = left_of(quantity, &kw[existing..existing_end]);
         let granted_at = MOST_INTERTIES * holder;
-        let granted_end = granted_at + self.interties;
+        let granted_end = granted_at + self.read.interties;
         let allowance = left_of(beyond, &granted[granted_at..granted_end]);
         step_4b::keep_new_use(
             &kw[first..end],
@@ -69,9 +68,9 @@ impl Sheet<'_> {
         granted: &[u64; MOST_PAIRS],
         claims: &mut [u64; MOST_PAIRS],
     )
-        requires { length quantities.now ≡ self.holders }
-        ensures { Pairs self.entry.holders most_interties claims.new
-            (λ (h i : ℕ). at (kept_from self.entry.tables.now self.entry.interties
+        requires { length quantities.now ≡ self.read.holders }
+        ensures { let r = self.entry.read in Pairs r.holders most_interties claims.new
+            (λ (h i : ℕ). at (kept_from r.tables.now r.interties
             (at quantities.now h) granted.now h).kept i) }
     {
         for (holder, quantity) in quantities.iter().enumerate() {

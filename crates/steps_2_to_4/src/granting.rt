@@ -17,14 +17,14 @@ impl Sheet<'_> {
     // Shares out the pool of each intertie over the claims there, with the holders' load shares. (Sizes that are asked for here
     // are not refused.)
     fn grant(self, pools: &[u64], claimed: &[u64; MOST_PAIRS], granted: &mut [u64; MOST_PAIRS])
-        requires { length pools.now ≡ self.interties }
-        ensures { let y = inputs self.entry.tables.now self.entry.interties self.entry.holders in
+        requires { length pools.now ≡ self.read.interties }
+        ensures { let r = self.entry.read in let y = inputs r.tables.now r.interties r.holders in
             (claim : ℕ → ℕ → ℕ) → Pairs y.holders most_interties claimed.now claim
             → SharedOver y pools.now claim granted.old granted.new }
     {
         let _ = intertie_shares::share_out_each(
-            self.interties,
-            self.holders,
+            self.read.interties,
+            self.read.holders,
             pools,
             claimed,
             self.loads,
@@ -34,8 +34,8 @@ impl Sheet<'_> {
 
     // Step 4a: shares out what Step 3 left on each intertie over the Pre-RA claims.
     fn grant_pre_ra(self, pools: &[u64], granted: &mut [u64; MOST_PAIRS])
-        requires { length pools.now ≡ self.interties }
-        ensures { let y = inputs self.entry.tables.now self.entry.interties self.entry.holders in
+        requires { length pools.now ≡ self.read.interties }
+        ensures { let r = self.entry.read in let y = inputs r.tables.now r.interties r.holders in
             SharedOver y pools.now (pre_ra_claim y) granted.old granted.new }
     {
         let mut claimed = [0u64; MOST_PAIRS];
@@ -51,10 +51,10 @@ impl Sheet<'_> {
         pre_ra: &[u64; MOST_PAIRS],
         granted: &mut [u64; MOST_PAIRS],
     )
-        requires { (length pools.now ≡ self.interties) × (length quantities.now ≡ self.holders) }
-        ensures { let y = inputs self.entry.tables.now self.entry.interties self.entry.holders in
+        requires { (length pools.now ≡ self.read.interties) × (length quantities.now ≡ self.read.holders) }
+        ensures { let r = self.entry.read in let y = inputs r.tables.now r.interties r.holders in
             SharedOver y pools.now
-            (λ (h i : ℕ). at (kept_from self.entry.tables.now self.entry.interties
+            (λ (h i : ℕ). at (kept_from r.tables.now r.interties
             (at quantities.now h) pre_ra.now h).kept i)
             granted.old granted.new }
     {
@@ -71,19 +71,19 @@ impl Sheet<'_> {
         pre_ra: &mut [u64; MOST_PAIRS],
         new_use: &mut [u64; MOST_PAIRS],
     )
-        requires { let y = inputs self.tables.now self.interties self.holders in
-            (pools.old ≡ tab self.interties (available y)) × (quantities.now ≡ tab self.holders (load_share_quantity y)) }
-        ensures { let y = inputs self.entry.tables.now self.entry.interties self.entry.holders in
+        requires { let r = self.read in let y = inputs r.tables.now r.interties r.holders in
+            (pools.old ≡ tab self.read.interties (available y)) × (quantities.now ≡ tab self.read.holders (load_share_quantity y)) }
+        ensures { let r = self.entry.read in let y = inputs r.tables.now r.interties r.holders in
             Granted y pre_ra.old new_use.old pools.new pre_ra.new new_use.new }
     {
-        let kw = &self.tables.kw;
+        let kw = &self.read.tables.kw;
         let (existing, _) = kw[EXISTING..].as_chunks::<HOLDER_INTERTIES>();
-        take_off_each(&existing[..self.holders], pools);
+        take_off_each(&existing[..self.read.holders], pools);
         self.grant_pre_ra(pools, pre_ra);
         let (rows, _) = pre_ra.as_chunks::<MOST_INTERTIES>();
-        take_off_each(&rows[..self.holders], pools);
+        take_off_each(&rows[..self.read.holders], pools);
         self.grant_new_use(pools, quantities, pre_ra, new_use);
         let (rows, _) = new_use.as_chunks::<MOST_INTERTIES>();
-        take_off_each(&rows[..self.holders], pools);
+        take_off_each(&rows[..self.read.holders], pools);
     }
 }

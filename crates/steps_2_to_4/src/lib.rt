@@ -16,32 +16,30 @@ ghost use Rattle.steps_2_to_4.specs.Reserved.{inputs, fit_tables, reserved};
 
 use base::limits::{MOST_HOLDERS, MOST_INTERTIES, MOST_KW, MOST_LOAD_SHARE, MOST_PAIRS};
 use base::vectors::all_within;
-use sheet_reading::tables::{LOAD_SHARES, SLOTS, Tables};
+use sheet_reading::tables::{LOAD_SHARES, Read};
 
 // Whether sizes, limits and load shares are in range.
-fn fit_tables(kw: &[u64; SLOTS], interties: usize, holders: usize) -> bool
-    ensures { result ≡ fit_tables kw.now interties holders }
+fn fit_tables(read: Read<'_>) -> bool
+    ensures { let r = read.entry in result ≡ fit_tables r.tables.now.kw r.interties r.holders }
 {
-    if (MOST_INTERTIES < interties) | (MOST_HOLDERS < holders) {
+    if (MOST_INTERTIES < read.interties) | (MOST_HOLDERS < read.holders) {
         return false;
     }
-    let end = LOAD_SHARES + holders;
-    all_within(&kw[..interties], MOST_KW) & all_within(&kw[LOAD_SHARES..end], MOST_LOAD_SHARE)
+    let kw = &read.tables.kw;
+    let end = LOAD_SHARES + read.holders;
+    all_within(&kw[..read.interties], MOST_KW) & all_within(&kw[LOAD_SHARES..end], MOST_LOAD_SHARE)
 }
 
-// What Steps 2 to 4b are made over: the tables of a sheet, how many interties and holders it has, and the load share of each
-// holder; all in range.
+// What Steps 2 to 4b are made over: what was read of a sheet, and the load share of each holder; all in range.
 #[derive(Clone, Copy)]
 struct Sheet<'a> {
-    tables: &'a Tables,
-    interties: usize,
-    holders: usize,
+    read: Read<'a>,
     loads: &'a [u64],
-    ghost few: { interties ≤ most_interties },
-    ghost small: { holders ≤ most_holders },
-    ghost ranged: { fit_tables tables.now.kw interties holders ≡ true },
-    ghost weighed: { loads.now ≡ tab holders (λ (h : ℕ). at tables.now.kw (load_share_slot h)) },
-    ghost sized: { length loads.now ≡ holders },
+    ghost few: { read.interties ≤ most_interties },
+    ghost small: { read.holders ≤ most_holders },
+    ghost ranged: { fit_tables read.tables.now.kw read.interties read.holders ≡ true },
+    ghost weighed: { loads.now ≡ tab read.holders (λ (h : ℕ). at read.tables.now.kw (load_share_slot h)) },
+    ghost sized: { length loads.now ≡ read.holders },
 }
 
 impl Sheet<'_> {
@@ -53,8 +51,8 @@ impl Sheet<'_> {
         pre_ra: &mut [u64; MOST_PAIRS],
         new_use: &mut [u64; MOST_PAIRS],
     ) -> u64
-        requires { (length quantities.old ≡ self.holders) × (length pools.old ≡ self.interties) }
-        ensures { let y = inputs self.entry.tables.now self.entry.interties self.entry.holders in
+        requires { (length quantities.old ≡ self.read.holders) × (length pools.old ≡ self.read.interties) }
+        ensures { let r = self.entry.read in let y = inputs r.tables.now r.interties r.holders in
             Taken y pre_ra.old new_use.old quantities.new pools.new pre_ra.new new_use.new result }
     {
         let total = self.step_2(pools, quantities);
@@ -69,38 +67,34 @@ impl Sheet<'_> {
 // in the figures that the state is written from, and the Load Share Quantities with opening's caller. 0 and no Option: it can't fail
 // for who has read a sheet that stands, whose T may be 0.)
 pub fn reserve(
-    tables: &Tables,
-    interties: usize,
-    holders: usize,
+    read: Read<'_>,
     quantities: &mut [u64; MOST_HOLDERS],
     unassigned: &mut [u64; MOST_INTERTIES],
     pre_ra: &mut [u64; MOST_PAIRS],
     new_use: &mut [u64; MOST_PAIRS],
 ) -> u64
-    ensures { record {
+    ensures { let r = read.entry in record {
       total = result;
       quantities = quantities.new;
       left = unassigned.new;
       pre_ra = pre_ra.new;
       new_use = new_use.new;
     }
-        ≡ reserved tables.now interties holders
+        ≡ reserved r.tables.now r.interties r.holders
         quantities.old unassigned.old pre_ra.old new_use.old }
 {
-    let kw = &tables.kw;
-    if !fit_tables(kw, interties, holders) {
+    if !fit_tables(read) {
         return 0;
     }
-    let end = LOAD_SHARES + holders;
+    let kw = &read.tables.kw;
+    let end = LOAD_SHARES + read.holders;
     let sheet = Sheet {
-        tables,
-        interties,
-        holders,
+        read,
         loads: &kw[LOAD_SHARES..end],
     };
     sheet.steps_2_to_4(
-        &mut quantities[..holders],
-        &mut unassigned[..interties],
+        &mut quantities[..read.holders],
+        &mut unassigned[..read.interties],
         pre_ra,
         new_use,
     )

@@ -32,11 +32,11 @@ fn fill_quantities(total: u64, all: u64, loads: &[u64], quantities: &mut [u64])
 impl Sheet<'_> {
     // Step 2: what is available on each intertie and the Load Share Quantities; answers T.
     pub(super) fn step_2(self, pools: &mut [u64], quantities: &mut [u64]) -> u64
-        requires { (length pools.old ≡ self.interties) × (length quantities.old ≡ self.holders) }
-        ensures { let y = inputs self.entry.tables.now self.entry.interties self.entry.holders in
+        requires { (length pools.old ≡ self.read.interties) × (length quantities.old ≡ self.read.holders) }
+        ensures { let r = self.entry.read in let y = inputs r.tables.now r.interties r.holders in
             Available y pools.new quantities.new result }
     {
-        let kw = &self.tables.kw;
+        let kw = &self.read.tables.kw;
         vectors::differences(kw, &kw[OUTSIDE..], pools);
         let total = sum_of(pools);
         let all = sum_of(self.loads);

@@ -1,19 +1,25 @@
 -- `write_state` meets its contract: nothing where the sizes don't fit, else the groups in the order of their rows.
-use Rattle.std.proofs.Common.{not}
-use Rattle.base.proofs.Prelude.{sym, ap, ◌∙◌}
-use borrow.Author.Tests.{not-true, not-false}
-use Rattle.base.proofs.ChoiceLaws.{pick_true, pick-false}
+use Rattle.base.proofs.Prelude.{ap, ◌∙◌}
 use Rattle.opened_state.specs.Write.{figures_written, reserved_written, stage_written, rows_cleared, pairs_cleared}
+use Rattle.opened_state.proofs.WriteLaws.{sizes-pass, written-short, written-large, written-whole}
 use Rattle.opened_state.proofs.write_state.Goals as goal
+
+pub returns-then-read : goal.returns-then-read
+returns-then-read c = let a = c.args in written-large a.read.tables.now _ _ a.figures.now _ c.if-read.true
+
+pub returns-in_default : goal.returns-in_default
+returns-in_default c = let a = c.args in written-short a.read.tables.now _ _ a.figures.now _ c.in_default.ensures.cases
 
 pub returns : goal.returns
 returns c =
-    let a = c.args in
-    let I = a.interties in
-    let H = a.holders in
-    let tables = a.tables.now in
-    let figures = a.figures.now in
-    c.clear_pairs.ensures
+    let r = c.args.read in
+    let I = r.interties in
+    let H = r.holders in
+    let tables = r.tables.now in
+    let figures = c.args.figures.now in
+    let cut = c.in-Some.ensures.cases in
+    written-whole tables I H figures c.args.state.now _ _ c.if-read.false (cut.enough, cut.same)
+    (c.clear_pairs.ensures
     ∙ ap (pairs_cleared I H)
     (c.clear_rows.ensures
     ∙ ap (rows_cleared H)
@@ -21,10 +27,7 @@ returns c =
     ∙ ap (stage_written I H figures)
     (c.write_reserved.ensures
     ∙ ap (reserved_written tables I H figures)
-    (c.write_figures.ensures
-    ∙ ap (figures_written tables I H figures)
-    c.write_sizes.ensures))))
-    ∙ sym (pick_true _ _ _ (sym c.fit_sizes.ensures ∙ not-false _ (ap not c.if-not-fit_sizes.false)))
+    (c.write_figures.ensures ∙ ap (figures_written tables I H figures) c.write_sizes.ensures)))))
 
-pub returns-then-not-fit_sizes : goal.returns-then-not-fit_sizes
-returns-then-not-fit_sizes c = sym (pick-false _ _ _ (sym c.fit_sizes.ensures ∙ not-true _ (ap not c.if-not-fit_sizes.true)))
+pub invariant_of-from : goal.invariant_of-from
+invariant_of-from c = let z = sizes-pass _ _ c.if-read.false in record { few = z.few; small = z.small }

@@ -39,9 +39,8 @@ returns-then-state-lt-STATE_WORDS c =
 
 pub steps_2_to_7-total-requires : goal.steps_2_to_7-total-requires
 steps_2_to_7-total-requires c =
-    (read-valid _ _ _ _ c.read_sheet.ensures (ap number_in c.in_ok-read_sheet.was) _ _ c.intertie_count-interties.ensures c.holder_count-holders.ensures, c.if-state-lt-STATE_WORDS.false)
+    (read-valid _ _ _ _ c.read_sheet.ensures (ap number_in c.in_ok-read_sheet.was) _ _ c.intertie_count.ensures c.holder_count.ensures, c.if-state-lt-STATE_WORDS.false)
 
 pub returns : goal.returns
 returns c =
-    let o = read_opened _ _ _ _ c.read_sheet.ensures (ap number_in c.in_ok-read_sheet.was) _ _ c.intertie_count-interties.ensures c.holder_count-holders.ensures c.args.state.now c.args.quantities.now c.if-state-lt-STATE_WORDS.false _ _ _ c.steps_2_to_7-total.ensures in
-    o
+    read_opened _ _ _ _ c.read_sheet.ensures (ap number_in c.in_ok-read_sheet.was) _ _ c.intertie_count.ensures c.holder_count.ensures c.args.state.now c.args.quantities.now c.if-state-lt-STATE_WORDS.false _ _ _ c.steps_2_to_7-total.ensures

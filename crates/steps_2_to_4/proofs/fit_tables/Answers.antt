@@ -4,8 +4,8 @@ use Rattle.base.proofs.ChoiceLaws.{pick_true}
 use Rattle.steps_2_to_4.proofs.StepLaws.{fit-by-parts}
 use Rattle.steps_2_to_4.proofs.fit_tables.Goals as goal
 
-pub returns-then-interties-holders : goal.returns-then-interties-holders
-returns-then-interties-holders c = sym (pick_true _ _ _ c.if-interties-holders.true)
+pub returns-then-read : goal.returns-then-read
+returns-then-read c = sym (pick_true _ _ _ c.if-read.true)
 
 pub returns : goal.returns
-returns c = fit-by-parts _ _ _ _ _ (search rules) c.if-interties-holders.false c.all_within.ensures c.all_within-2.ensures
+returns c = fit-by-parts _ _ _ _ _ (search rules) c.if-read.false c.all_within.ensures c.all_within-2.ensures

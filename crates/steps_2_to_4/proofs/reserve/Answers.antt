@@ -16,13 +16,13 @@ pub invariant_of-sheet-clause-weighed : goal.invariant_of-sheet-clause-weighed
 invariant_of-sheet-clause-weighed c =
     let a = c.args in
     let fit = sym c.fit_tables.ensures ∙ not-false _ (ap not c.if-not-fit_tables.false) in
-    let size : length a.tables.now.kw ≡ 12481 = search rules in
-    mid-tab 128 (128 + a.holders) a.holders a.tables.now.kw (omega (arith, (fit-tables a.tables.now.kw a.interties _ fit).small)) (omega arith)
+    let size : length a.read.tables.now.kw ≡ 12481 = search rules in
+    mid-tab 128 (128 + a.read.holders) a.read.holders a.read.tables.now.kw (omega (arith, (fit-tables a.read.tables.now.kw a.read.interties _ fit).small)) (omega arith)
 
 pub returns : goal.returns
 returns c =
     let a = c.args in
     let fit = sym c.fit_tables.ensures ∙ not-false _ (ap not c.if-not-fit_tables.false) in
     let range = fit-tables _ _ _ fit in
-    taken-whole a.tables.now a.interties a.holders _ _ _ _ _ _ _ _ _ range.few range.small c.told-quantities c.told-unassigned fit
+    taken-whole a.read.tables.now a.read.interties a.read.holders _ _ _ _ _ _ _ _ _ range.few range.small c.told-quantities c.told-unassigned fit
     c.steps_2_to_4.ensures

@@ -5,4 +5,4 @@ use Rattle.opened_state.proofs.Source.write_sizes.Goals as goal
 
 pub returns : goal.returns
 returns c =
-    c.store-2.ensures ∙ ap (λ s. set s holders_at c.args.self.holders) c.store.ensures
+    c.store-2.ensures ∙ ap (λ s. set s holders_at c.args.self.read.holders) c.store.ensures

@@ -7,4 +7,4 @@ pub returns : goal.returns
 returns c =
     let a = c.args in
     let p = c.requires in
-    stored-slots a.state.now _ a.self.tables.now.kw a.row a.count a.slot _ c.store_row.ensures p.0 p.1 p.2 p.3 (search rules) (search rules)
+    stored-slots _ _ a.self.read.tables.now.kw _ _ _ _ c.store_row.ensures (search rules) p.0 p.1 p.2 (search rules) (search rules)

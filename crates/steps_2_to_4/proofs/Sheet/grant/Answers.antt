@@ -6,5 +6,5 @@ use Rattle.steps_2_to_4.proofs.Sheet.grant.Goals as goal
 pub returns : goal.returns
 returns c =
     let given = c.args.self in
-    granted-over (inputs given.tables.now given.interties given.holders) _ _ _ _ _ given.few given.small c.requires given.sized given.weighed
+    granted-over (inputs given.read.tables.now given.read.interties given.read.holders) _ _ _ _ _ given.few given.small c.requires given.sized given.weighed
     c.told-claimed c.told-granted c.share_out_each.ensures.1

@@ -12,7 +12,7 @@ loop-holder-preserved c = let a = c.args in
     let last = c.holder_claims.new.row in
     let size : length (mid_of (48 * m) (48 * m + 48 - 48 * m) table) ≡ 48 =
     mid_len (48 * m) (48 * m + 48) table (omega (arith, given.small, c.told-claims, c.loop-holder.invariant.size)) ∙ (omega arith) in
-    rows_next (claim given.tables.now given.interties a.quantities.now a.granted.now) given.holders a.claims.now
+    rows_next (claim given.read.tables.now given.read.interties a.quantities.now a.granted.now) given.read.holders a.claims.now
     table last m (48 * m) (48 * m + 48) c.loop-holder.invariant (omega arith) refl refl
     (omega (arith, given.small, c.told-claims))
     (c.holder_claims.auto.row ∙ size)

@@ -10,4 +10,4 @@ claim tables interties quantities granted h i = at (kept_from tables interties (
 
 abbrev pub invariant-loop-holder : goal.invariant-loop-holder
 invariant-loop-holder l =
-    Rows (claim l.self.tables.now l.self.interties l.quantities l.granted) l.self.holders l.initial.claims l.claims l.holder
+    Rows (claim l.self.read.tables.now l.self.read.interties l.quantities l.granted) l.self.read.holders l.initial.claims l.claims l.holder

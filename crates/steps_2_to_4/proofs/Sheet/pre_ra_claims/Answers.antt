@@ -10,12 +10,12 @@ unfolding pre_ra_claim
 loop-holder-preserved c =
     let given = c.args.self in
     let m = c.loop-holder.holder in
-    let kw = given.tables.now.kw in
+    let kw = given.read.tables.now.kw in
     let table = c.loop-holder.claims in
     let last = c.differences.new.row in
     let size : length (mid_of (48 * m) (48 * m + 48 - 48 * m) table) ≡ 48 =
     mid_len (48 * m) (48 * m + 48) table (omega (arith, given.small, c.told-claims, c.loop-holder.invariant.size)) ∙ (omega arith) in
-    rows_next (pre_ra_claim (inputs given.tables.now given.interties given.holders)) given.holders c.args.claims.now table last m
+    rows_next (pre_ra_claim (inputs given.read.tables.now given.read.interties given.read.holders)) given.read.holders c.args.claims.now table last m
     (48 * m) (48 * m + 48) c.loop-holder.invariant c.loop-holder-test.true refl refl
     (omega (arith, given.small, c.told-claims))
     (c.differences.auto.row ∙ size)

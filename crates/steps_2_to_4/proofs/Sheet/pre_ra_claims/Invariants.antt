@@ -6,4 +6,4 @@ use Rattle.steps_2_to_4.proofs.Sheet.pre_ra_claims.Given as goal
 
 abbrev pub invariant-loop-holder : goal.invariant-loop-holder
 invariant-loop-holder l =
-    Rows (pre_ra_claim (inputs l.self.tables.now l.self.interties l.self.holders)) l.self.holders l.initial.claims l.claims l.holder
+    Rows (pre_ra_claim (inputs l.self.read.tables.now l.self.read.interties l.self.read.holders)) l.self.read.holders l.initial.claims l.claims l.holder

@@ -7,13 +7,13 @@ pub fill_quantities-requires : goal.fill_quantities-requires
 fill_quantities-requires c =
     let given = c.args.self in
     let range = fit-tables _ _ _ given.ranged in (
-      total-small given.tables.now _ _ _ range given.weighed _ _ (12481 - 64) c.requires.0 c.differences.ensures (omega arith) _ _ c.sum_of-total.ensures c.sum_of-all.ensures,
-      load-most given.tables.now _ _ _ range given.weighed,
+      total-small given.read.tables.now _ _ _ range given.weighed _ _ (12481 - 64) c.requires.0 c.differences.ensures (omega arith) _ _ c.sum_of-total.ensures c.sum_of-all.ensures,
+      load-most given.read.tables.now _ _ _ range given.weighed,
       c.requires.1 ∙ sym given.sized,
     )
 
 pub returns : goal.returns
 returns c =
     let given = c.args.self in
-    available-is given.tables.now _ _ _ (fit-tables _ _ _ given.ranged) given.weighed _ _ (12481 - 64) c.requires.0 c.differences.ensures (omega arith)
+    available-is given.read.tables.now _ _ _ (fit-tables _ _ _ given.ranged) given.weighed _ _ (12481 - 64) c.requires.0 c.differences.ensures (omega arith)
     _ _ c.sum_of-total.ensures c.sum_of-all.ensures _ _ c.requires.1 c.fill_quantities.ensures

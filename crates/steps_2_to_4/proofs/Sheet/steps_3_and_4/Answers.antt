@@ -19,10 +19,10 @@ returns c =
     let given = a.self in
     let few = given.few in
     let small = given.small in
-    let start = left-by-step-3 given.tables.now given.interties given.holders few small a.pools.now c.requires.0 (12481 - 192) _ _ _
+    let start = left-by-step-3 given.read.tables.now given.read.interties given.read.holders few small a.pools.now c.requires.0 (12481 - 192) _ _ _
     c.as_chunks.ensures.front (omega arith) (search rules) c.take_off_each.ensures in
-    let left = left-by-step-4a given.tables.now given.interties given.holders few small c.take_off_each.new.row a.pre_ra.now _ start c.told-pre_ra
+    let left = left-by-step-4a given.read.tables.now given.read.interties given.read.holders few small c.take_off_each.new.row a.pre_ra.now _ start c.told-pre_ra
     c.grant_pre_ra.ensures _ _ _ c.as_chunks-2.ensures.front (search rules) c.take_off_each-2.ensures in
-    granted-is given.tables.now given.interties given.holders few small c.take_off_each.new.row a.pre_ra.now _ start c.told-pre_ra
+    granted-is given.read.tables.now given.read.interties given.read.holders few small c.take_off_each.new.row a.pre_ra.now _ start c.told-pre_ra
     c.grant_pre_ra.ensures a.quantities.now c.requires.1 _ a.new_use.now _ left c.told-new_use c.grant_new_use.ensures
     _ _ _ c.as_chunks-3.ensures.front (search rules) c.take_off_each-3.ensures

@@ -5,4 +5,4 @@ use Rattle.opening.proofs.figures.Reserves.fill_held.Given as goal
 
 abbrev pub invariant-loop-holder : goal.invariant-loop-holder
 invariant-loop-holder l =
-    Filling (held_from l.self.interties l.self.tables.now.kw l.self.pre_ra.now l.self.new_use.now) l.initial.held l.held l.holder
+    Filling (held_from l.self.read.interties l.self.read.tables.now.kw l.self.pre_ra.now l.self.new_use.now) l.initial.held l.held l.holder

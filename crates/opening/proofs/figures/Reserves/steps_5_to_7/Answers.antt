@@ -13,14 +13,14 @@ fill_totals-requires c =
     let a = c.args in
     let r = a.self in
     let small = r.given.small in
-    totals-within r.total r.tables.now.kw _ _ _ _ r.given (search rules) _ _ (front r.holders a.held.now small c.told-held) c.fill_held.ensures
-    _ _ (front r.holders a.shares.now small c.told-shares) c.step_5_shares.ensures.1 _ (front r.holders a.totals.now small c.told-totals)
+    totals-within r.total r.read.tables.now.kw _ _ _ _ r.given (search rules) _ _ (front r.read.holders a.held.now small c.told-held) c.fill_held.ensures
+    _ _ (front r.read.holders a.shares.now small c.told-shares) c.step_5_shares.ensures.1 _ (front r.read.holders a.totals.now small c.told-totals)
 
 pub returns : goal.returns
 returns c =
     let a = c.args in
     let r = a.self in
     let small = r.given.small in
-    held-taken r.total r.tables.now.kw _ _ _ _ r.given (search rules) _ _ (front r.holders a.held.now small c.told-held) c.fill_held.ensures
-    _ _ (front r.holders a.shares.now small c.told-shares) c.step_5_shares.ensures.1 _ _ _ _ _
-    (front r.holders a.totals.now small c.told-totals) c.fill_totals.ensures
+    held-taken r.total r.read.tables.now.kw _ _ _ _ r.given (search rules) _ _ (front r.read.holders a.held.now small c.told-held) c.fill_held.ensures
+    _ _ (front r.read.holders a.shares.now small c.told-shares) c.step_5_shares.ensures.1 _ _ _ _ _
+    (front r.read.holders a.totals.now small c.told-totals) c.fill_totals.ensures
