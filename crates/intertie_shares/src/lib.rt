@@ -17,7 +17,8 @@ use base::limits::{MOST_HOLDERS, MOST_INTERTIES, MOST_KW, MOST_LOAD_SHARE, MOST_
 use base::refusals::Refusal;
 use base::{Granted, vectors};
 
-// Refusal 5: whether a size is over its limit, a pool or a weight is missing, or a table is short.
+// Refusal 5: whether a size is over its limit, a pool or a weight is missing, or a table is short. (Six lengths, as the definition has
+// them: a struct of them would be made and taken apart at once.)
 fn unfit_sizes(
     interties: usize,
     holders: usize,
@@ -162,7 +163,8 @@ impl Claims<'_> {
         self.share_out_gathered(intertie, claimed, output, grants)
     }
 
-    // Shares out on each intertie in turn; hands back kW and passes over all.
+    // Shares out on each intertie in turn; hands back kW and passes over all. (Grants as a slice with its least length in three
+    // clauses: as an array, lent by `first_chunk_mut`, it would have to be put back before the rest of the slice in each proof.)
     fn on_each(self, grants: &mut [u64]) -> Granted
         requires { most_pairs ≤ length grants.old }
         ensures { let given = self.entry in
