@@ -28,6 +28,7 @@ use Rattle.sheet_reading.specs.Workers.Deciding.{sizes_refusal, table_rules_hold
 use Rattle.base.proofs.ChoiceLaws.{le-or-lt, test_by, both}
 use borrow.Author.Tests.{leb-true, le-leb}
 use Rattle.base.proofs.SumLaws.{all_to-rows}
+use mathlib.Core.Bool.{and_assoc}
 use Rattle.sheet_reading.proofs.TableLaws.{at-limit, at-load-share, at-new-use, limit-at, outside-at, existing-at}
 use Rattle.sheet_records.proofs.RefusalLaws.{Sized, sized, long-enough, whole}
 use Rattle.sheet_records.proofs.OverLaws.{over-all}
@@ -122,9 +123,9 @@ modest s few bytes j =
     (mul-le-mul_right 4_294_967_295 few)))
     (le-or-lt slots j)
 
-pub sizes-decided : (s : List ℕ) (I H : ℕ) (b : Bool) → I ≡ interties s → H ≡ holders s → b ≡ not (within 1 48 I && within 1 32 H) → b ≡ bad_sizes s
+pub sizes-decided : (s : List ℕ) (I H : ℕ) (b : Bool) → I ≡ interties s → H ≡ holders s → b ≡ (within 1 48 I && leb 1 H && leb H 32) → not b ≡ bad_sizes s
 unfolding bad_sizes
-sizes-decided s I H b ei eh eb = rw (← ei, ← eh) eb
+sizes-decided s I H b ei eh eb = rw (← ei, ← eh) (ap not (eb ∙ and_assoc (within 1 48 I) (leb 1 H) (leb H 32)))
 
 -- refusals 1 and 2 as they are decided
 module _ (s : List ℕ) where
@@ -133,15 +134,15 @@ module _ (s : List ℕ) where
   sizes-1 a e t = simp (← e, t)
 
   module _ (a b : Bool) (e : a ≡ bad_length s) (f : a ≡ false) (I H : ℕ) (ei : I ≡ pick (ltb (length s) 12) 0 (interties s)) (eh : H ≡ pick (ltb (length s) 12) 0 (holders s))
-      (eb : b ≡ not (within 1 48 I && within 1 32 H)) where
-    sizes-bad : b ≡ bad_sizes s
+      (eb : b ≡ (within 1 48 I && leb 1 H && leb H 32)) where
+    sizes-bad : not b ≡ bad_sizes s
     sizes-bad = let whole = sym e ∙ f in sizes-decided s I H b (long-enough s I _ whole ei) (long-enough s H _ whole eh) eb
 
-    pub sizes-2 : b ≡ true → 2 ≡ sizes_refusal s
+    pub sizes-2 : b ≡ false → 2 ≡ sizes_refusal s
     unfolding sizes_refusal
     sizes-2 t = simp (← e, f, ← sizes-bad, t)
 
-    pub sizes-0 : b ≡ false → 0 ≡ sizes_refusal s
+    pub sizes-0 : b ≡ true → 0 ≡ sizes_refusal s
     unfolding sizes_refusal
     sizes-0 t = simp (← e, f, ← sizes-bad, t)
 

@@ -127,8 +127,8 @@ module _ (s : List ℕ) (begin items now after : Enumerate (List Record)) (all :
       kw-room bytes =
           omega (arith, here.0.inside, here.0.kw-is, (whole s (count s) passes refl).few, room (kw_at s) l p 4_294_967_295 (λ k. word_below s (12 + 4 * count s + 4 * k) bytes), word_below s (12 + 4 * count s + 4 * length had) bytes)
 
-      pub summed_more : set l (at found place) (at l (at found place) + x.kw) ≡ added s (kw_at s) (length (had ++ (place, x) ∷ []))
-      summed_more = added_more (kw_at s) l p x.kw here.0.kw-is
+      pub summed_more : (y : ℕ) → y ≡ x.kw → set l (at found place) (at l (at found place) + y) ≡ added s (kw_at s) (length (had ++ (place, x) ∷ []))
+      summed_more y e = added_more (kw_at s) l p y (e ∙ here.0.kw-is)
 
     module _ (l : List ℕ) (p : l ≡ added s (tie_at s) (length had)) (tie : ℕ) (t : tie ≡ intertie_of x.key) where
       pub tie-room : at l (at found place) + tie < 2 ^ 16

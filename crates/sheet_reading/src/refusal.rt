@@ -1,6 +1,6 @@
 // Refusals 1 to 4 of a sheet, lowest first, and the tables of the sheet.
-ghost use Rattle.std.specs.Prelude.{◌≡◌, ◌&&◌, not, ◌≤◌, ◌<◌, length, replicate};
-ghost use Rattle.base.specs.Limits.{most_interties, most_holders};
+ghost use Rattle.std.specs.Prelude.{◌≡◌, ◌≤◌, ◌<◌, length, replicate};
+ghost use Rattle.base.specs.Limits.{most_holders};
 ghost use Rattle.base.specs.Sums.{all_to};
 ghost use Rattle.base.specs.Words.{at};
 ghost use Rattle.sheet_keys.specs.Key.{key_interties};
@@ -17,17 +17,6 @@ use base::limits::MOST_RECORDS;
 use base::refusals::Refusal;
 use sheet_records::words;
 
-const MOST_INTERTIES: u32 = limits::MOST_INTERTIES as u32;
-
-const MOST_HOLDERS: u32 = limits::MOST_HOLDERS as u32;
-
-// Refusal 2: I or H out of range.
-fn bad_sizes(interties: u32, holders: u32) -> bool
-    ensures { result ≡ not (within 1 most_interties interties && within 1 most_holders holders) }
-{
-    !((1..=MOST_INTERTIES).contains(&interties) & (1..=MOST_HOLDERS).contains(&holders))
-}
-
 // Refusals 1 and 2, those of the length and of I and H.
 fn sizes_stand(sheet: &[u8]) -> Result<(), Refusal>
     ensures { number_in result ≡ sizes_refusal sheet.now }
@@ -35,14 +24,14 @@ fn sizes_stand(sheet: &[u8]) -> Result<(), Refusal>
     if words::bad_length(sheet) {
         return Err(Refusal::SheetLength);
     }
-    if bad_sizes(words::intertie_count(sheet), words::holder_count(sheet)) {
+    if !limits::sizes_in_range(words::intertie_count(sheet), words::holder_count(sheet)) {
         return Err(Refusal::Sizes);
     }
     Ok(())
 }
 
 // Whether each of these slots counts from LEAST to MOST records. All of them are looked at, so that no branch stands between
-// them: `all` would have one.
+// them: `all` would have one. (A loop: `fold` with & was tried, and of a closure over const parameters the check found nothing.)
 fn counts_within<const LEAST: u16, const MOST: u16>(counts: &[u16]) -> bool
     ensures { result ≡ all_to (length counts.now) (λ i. within LEAST MOST (at counts.now i)) }
 {
@@ -53,49 +42,63 @@ fn counts_within<const LEAST: u16, const MOST: u16>(counts: &[u16]) -> bool
     hold
 }
 
-// The existing contracts of all holders on an intertie.
-fn existing_on(kw: &[u64; SLOTS], holders: usize, intertie: usize) -> u64
-    requires { (holders ≤ most_holders) × (intertie < key_interties) × Modest kw.now }
-    ensures { result ≡ table_existing_on kw.now holders intertie }
-{
-    let mut sum = 0;
-    for h in 0..holders {
-        sum += kw[tables::EXISTING + tables::HOLDER_INTERTIES * h + intertie];
+// What refusals 3 and 4 are decided from: how many records each slot has, their kilowatts, and I and H.
+#[derive(Clone, Copy)]
+struct Filled<'a> {
+    counts: &'a [u16; SLOTS],
+    kw: &'a [u64; SLOTS],
+    interties: usize,
+    holders: usize,
+    ghost few_holders: { holders ≤ most_holders },
+    ghost few_interties: { interties ≤ key_interties },
+    ghost modest: { Modest kw.now },
+}
+
+impl Filled<'_> {
+    // The existing contracts of all holders on an intertie. (By place: of each holder's row one word is read.)
+    fn existing_on(self, intertie: usize) -> u64
+        requires { intertie < key_interties }
+        ensures { result ≡ table_existing_on self.entry.kw.now self.entry.holders intertie }
+    {
+        let mut sum = 0;
+        for h in 0..self.holders {
+            sum += self.kw[tables::EXISTING + tables::HOLDER_INTERTIES * h + intertie];
+        }
+        sum
     }
-    sum
-}
 
-// Whether outside rights and existing contracts fit into an intertie's limit.
-fn limit_holds(kw: &[u64; SLOTS], holders: usize, intertie: usize) -> bool
-    requires { (holders ≤ most_holders) × (intertie < key_interties) × Modest kw.now }
-    ensures { result ≡ table_limit_holds kw.now holders intertie }
-{
-    kw[tables::OUTSIDE + intertie] + existing_on(kw, holders, intertie) <= kw[intertie]
-}
-
-// Whether they fit on each intertie. All interties are looked at, so that no branch stands between them.
-fn limits_hold(kw: &[u64; SLOTS], holders: usize, interties: usize) -> bool
-    requires { (holders ≤ most_holders) × (interties ≤ key_interties) × Modest kw.now }
-    ensures { result ≡ all_to interties (table_limit_holds kw.now holders) }
-{
-    let mut hold = true;
-    for i in 0..interties {
-        hold = hold & limit_holds(kw, holders, i);
+    // Whether outside rights and existing contracts fit into an intertie's limit.
+    fn limit_holds(self, intertie: usize) -> bool
+        requires { intertie < key_interties }
+        ensures { result ≡ table_limit_holds self.entry.kw.now self.entry.holders intertie }
+    {
+        self.kw[tables::OUTSIDE + intertie] + self.existing_on(intertie) <= self.kw[intertie]
     }
-    hold
-}
 
-// Whether the records keep the rules of the sheet, where `stand` says it of each by itself.
-fn rules_hold(stand: bool, counts: &[u16; SLOTS], holders: usize, interties: usize) -> bool
-    requires { (holders ≤ most_holders) × (interties ≤ key_interties) }
-    ensures { result ≡ table_rules_hold stand counts.now holders interties }
-{
-    stand
-        & counts_within::<1, 1>(&counts[..interties])
-        & counts_within::<0, 1>(&counts[tables::LOAD_SHARES..tables::LOAD_SHARES + holders])
-        & counts_within::<0, 1>(
-            &counts[tables::NEW_USE..tables::NEW_USE + tables::HOLDER_RANKS * holders],
-        )
+    // Whether they fit on each intertie. All interties are looked at, so that no branch stands between them.
+    fn limits_hold(self) -> bool
+        ensures { result ≡ all_to self.entry.interties (table_limit_holds self.entry.kw.now self.entry.holders) }
+    {
+        let mut hold = true;
+        for i in 0..self.interties {
+            hold = hold & self.limit_holds(i);
+        }
+        hold
+    }
+
+    // Whether the records keep the rules of the sheet, where `stand` says it of each by itself.
+    fn rules_hold(self, stand: bool) -> bool
+        ensures { result ≡ table_rules_hold stand self.entry.counts.now self.entry.holders self.entry.interties }
+    {
+        let counts = self.counts;
+        let shares = &counts[tables::LOAD_SHARES..tables::LOAD_SHARES + self.holders];
+        let ranks =
+            &counts[tables::NEW_USE..tables::NEW_USE + tables::HOLDER_RANKS * self.holders];
+        stand
+            & counts_within::<1, 1>(&counts[..self.interties])
+            & counts_within::<0, 1>(shares)
+            & counts_within::<0, 1>(ranks)
+    }
 }
 
 // Refusals 3 and 4 of a sheet that 1 and 2 let pass, and its records in cleared tables. The slots of the records are at hand.
@@ -117,8 +120,14 @@ fn read_sized(
     let holders = words::holder_count(sheet) as usize;
     let stand = rules::records_stand(sheet);
     tables::add_records(sheet, found, counts, kw);
-    let rules = rules_hold(stand, counts, holders, interties);
-    let limits = limits_hold(kw, holders, interties);
+    let filled = Filled {
+        counts,
+        kw,
+        interties,
+        holders,
+    };
+    let rules = filled.rules_hold(stand);
+    let limits = filled.limits_hold();
     if !rules {
         return Err(Refusal::Records);
     }
@@ -141,7 +150,8 @@ pub fn read_sheet(sheet: &[u8], tables: &mut Tables) -> Result<(), Refusal>
     read_sized(sheet, &found, &mut tables.counts, &mut tables.kw)
 }
 
-// Refuses a sheet, or lets it pass (docs/RULES.md, "The sheet").
+// Refuses a sheet, or lets it pass (docs/RULES.md, "The sheet"). (Two tables and no `Tables`: a refusal alone has no use for the
+// third.)
 pub fn sheet_refusal(sheet: &[u8]) -> Result<(), Refusal>
     ensures { number_in result ≡ sheet_refusal sheet.now }
 {

@@ -6,16 +6,12 @@ ghost use Rattle.sheet_records.specs.Refusal.{within, bad_length, record_stands,
 ghost use Rattle.sheet_reading.specs.Workers.Kinds.{rule_of};
 
 use base::kinds::Kind;
-use base::limits;
 use base::limits::MOST_YEARS;
+use base::limits::words::{MOST_KW, MOST_LOAD_SHARE};
 use base::numbered::Unnamed;
 use sheet_keys::key::Key;
 use sheet_records::reader::Record;
 use sheet_records::{reader, words};
-
-const MOST_KW: u32 = limits::MOST_KW as u32;
-
-const MOST_LOAD_SHARE: u32 = limits::MOST_LOAD_SHARE as u32;
 
 // What a kind says: whether it names a holder, an intertie, a rank, years, and from which to which quantity stands.
 #[derive(Clone, Copy)]

@@ -9,8 +9,8 @@ ghost use Rattle.sheet_reading.specs.Tables.{slot, slot_of, slots, count_table, 
 ghost use Rattle.sheet_reading.specs.Workers.Adding.{SlotsOf};
 
 use base::kinds::Kind;
-use base::limits;
 use base::limits::MOST_RECORDS;
+use base::limits::words::MOST_HOLDERS;
 use sheet_keys::key;
 use sheet_keys::key::Key;
 use sheet_records::reader;
@@ -30,8 +30,6 @@ pub const EXISTING: usize = 192;
 pub const PRE_RA: usize = 2_240;
 
 pub const NEW_USE: usize = 4_288;
-
-const MOST_HOLDERS: u32 = limits::MOST_HOLDERS as u32;
 
 // The slot of the rest.
 const OTHER: u32 = 12_480;
@@ -84,32 +82,32 @@ fn slot(key: Key) -> u32
     ensures { result ≡ slot key.kind key.holder key.intertie key.rank }
 {
     let new_use = either(
-        key.kind == Kind::NewUseCommitment as u32,
+        key.kind == Kind::NewUseCommitment.number(),
         NEW_USE as u32 + HOLDER_RANKS as u32 * key.holder + key.rank,
         OTHER,
     );
     let pre_ra = either(
-        key.kind == Kind::PreRaCommitment as u32,
+        key.kind == Kind::PreRaCommitment.number(),
         PRE_RA as u32 + HOLDER_INTERTIES as u32 * key.holder + key.intertie,
         new_use,
     );
     let existing = either(
-        key.kind == Kind::ExistingContract as u32,
+        key.kind == Kind::ExistingContract.number(),
         EXISTING as u32 + HOLDER_INTERTIES as u32 * key.holder + key.intertie,
         pre_ra,
     );
     let by_holder = either(MOST_HOLDERS <= key.holder, OTHER, existing);
     let load_share = either(
-        key.kind == Kind::LoadShare as u32,
+        key.kind == Kind::LoadShare.number(),
         LOAD_SHARES as u32 + key.holder,
         by_holder,
     );
     let outside = either(
-        key.kind == Kind::OutsideRight as u32,
+        key.kind == Kind::OutsideRight.number(),
         OUTSIDE as u32 + key.intertie,
         load_share,
     );
-    either(key.kind == Kind::Limit as u32, key.intertie, outside)
+    either(key.kind == Kind::Limit.number(), key.intertie, outside)
 }
 
 // The slot of a key.
@@ -129,7 +127,8 @@ pub(crate) fn find_slots(sheet: &[u8], found: &mut [u32; MOST_RECORDS])
     }
 }
 
-// Counts each record in cleared tables and adds its kilowatts, with its slot at hand.
+// Counts each record in cleared tables and adds its kilowatts, with its slot at hand. (Slots by place, here and below, as
+// `find_slots` writes them: the laws of a record and its place serve all three walks.)
 pub(crate) fn add_records(
     sheet: &[u8],
     found: &[u32; MOST_RECORDS],
@@ -146,7 +145,7 @@ pub(crate) fn add_records(
     for (place, record) in reader::records(sheet).enumerate() {
         let slot = found[place] as usize;
         counts[slot] += 1;
-        kw[slot] += record.kw as u64;
+        kw[slot] += u64::from(record.kw);
     }
 }
 

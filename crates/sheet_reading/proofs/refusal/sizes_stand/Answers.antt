@@ -6,8 +6,8 @@ use Rattle.sheet_reading.proofs.refusal.sizes_stand.Goals as goal
 pub returns-then-bad_length : goal.returns-then-bad_length
 returns-then-bad_length c = search (rules, sizes-1)
 
-pub returns-then-bad_sizes : goal.returns-then-bad_sizes
-returns-then-bad_sizes c = search (rules, sizes-2)
+pub returns-then-not-sizes_in_range : goal.returns-then-not-sizes_in_range
+returns-then-not-sizes_in_range c = search (rules, sizes-2)
 
 pub returns : goal.returns
 returns c = search (rules, sizes-0)

@@ -1,6 +1,6 @@
 use Rattle.base.proofs.Prelude.{sym}
 use Rattle.base.proofs.SumLaws.{all_to-zero, all_more}
-use Rattle.sheet_reading.proofs.refusal.limits_hold.Goals as goal
+use Rattle.sheet_reading.proofs.refusal.Filled.limits_hold.Goals as goal
 
 pub loop-i-init : goal.loop-i-init
 loop-i-init c = sym (all_to-zero _)

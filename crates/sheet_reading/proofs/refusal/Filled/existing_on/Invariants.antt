@@ -1,0 +1,7 @@
+-- `Filled::existing_on` meets its contract: the sum over the holders so far.
+use Rattle.base.proofs.Prelude.{◌≡◌}
+use Rattle.sheet_reading.specs.Workers.Deciding.{table_existing_on}
+use Rattle.sheet_reading.proofs.refusal.Filled.existing_on.Given as goal
+
+abbrev pub invariant-loop-h : goal.invariant-loop-h
+invariant-loop-h l = l.sum ≡ table_existing_on l.self.kw.now l.h l.intertie

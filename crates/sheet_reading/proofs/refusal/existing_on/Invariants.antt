@@ -1,7 +1,0 @@
--- `refusal::existing_on` meets its contract: the sum over the holders so far.
-use Rattle.base.proofs.Prelude.{◌≡◌}
-use Rattle.sheet_reading.specs.Workers.Deciding.{table_existing_on}
-use Rattle.sheet_reading.proofs.refusal.existing_on.Given as goal
-
-abbrev pub invariant-loop-h : goal.invariant-loop-h
-invariant-loop-h l = l.sum ≡ table_existing_on l.kw l.h l.intertie
