@@ -92,8 +92,7 @@ impl Filled<'_> {
     {
         let counts = self.counts;
         let shares = &counts[tables::LOAD_SHARES..tables::LOAD_SHARES + self.holders];
-        let ranks =
-            &counts[tables::NEW_USE..tables::NEW_USE + tables::HOLDER_RANKS * self.holders];
+        let ranks = &counts[tables::NEW_USE..tables::NEW_USE + tables::HOLDER_RANKS * self.holders];
         stand
             & counts_within::<1, 1>(&counts[..self.interties])
             & counts_within::<0, 1>(shares)
