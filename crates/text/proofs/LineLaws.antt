@@ -1,16 +1,16 @@
 -- How long a line is, and its figures one by one.
 use Prim.Native.Nat.{ℕ, ◌+◌, ◌*◌, ◌≤◌, ◌<◌}
 use mathlib.Core.Path.{◌≡◌, refl, sym, ap, ◌∙◌}
-use mathlib.Core.Bool.{Bool, false, ◌&&◌}
+use mathlib.Core.Bool.{false}
 use mathlib.Core.List.{List, [], ◌∷◌, ◌++◌, append-nil, append_assoc}
 use native.Mathlib.Numerals.{add-one}
 use native.Mathlib.Omega.{arith}
 use lib.Dec.{leb}
 use lib.ListN.{length, length-append, take}
 use lib.Seq.{take-suc}
-use borrow.Author.Tests.{le-leb, lt-leb, leb-true}
+use borrow.Author.Tests.{le-leb, lt-leb}
 use Rattle.base.specs.Words.{at}
-use Rattle.base.proofs.ChoiceLaws.{and-false, and_left, and_right, pick-by}
+use Rattle.base.proofs.ChoiceLaws.{and-false}
 use Rattle.text.specs.Lines.{line_end, figure, figures_of, line_of, bounded_line}
 use Rattle.text.proofs.DecimalLaws.{length-decimal}
 
@@ -54,20 +54,6 @@ module _ (label : List ℕ) (separator : ℕ) (numbers : List ℕ) where
   pub line-stands : length label ≤ 20 → length numbers ≤ 8 → bounded_line label separator numbers ≡ line_of label separator numbers
   unfolding bounded_line
   line-stands short few = rw (le-leb (length label) 20 short, le-leb (length numbers) 8 few) refl
-
-  pub length-bounded : length (bounded_line label separator numbers) ≤ 189
-  unfolding bounded_line
-  length-bounded =
-      let within : Bool = leb (length label) 20 && leb (length numbers) 8 in
-      pick-by (λ (t : List ℕ). length t ≤ 189) within (line_of label separator numbers) []
-      (λ t.
-      omega (
-        arith,
-        length-line label separator numbers,
-        leb-true (length label) 20 (and_left (leb (length label) 20) (leb (length numbers) 8) t),
-        leb-true (length numbers) 8 (and_right (leb (length label) 20) (leb (length numbers) 8) t),
-      ))
-      (λ _. omega arith)
 
   pub label-over : 20 < length label → bounded_line label separator numbers ≡ []
   unfolding bounded_line

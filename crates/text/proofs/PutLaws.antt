@@ -39,10 +39,10 @@ appended-tried (Err e) room text l m variant ok err =
     ]
 
 -- a separator, then digits
-pub figure-put : (separator number room : ℕ) (digits l m n : List ℕ) → number < 2 ^ 64 → digits ≡ Fmt.decimal number →
+pub figure_put : (separator number room : ℕ) (digits l m n : List ℕ) → number < 2 ^ 64 → digits ≡ Fmt.decimal number →
     length digits < room - length l → m ≡ l ++ (separator ∷ []) → n ≡ appended room digits m → n ≡ appended room (figure separator number) l
 unfolding figure
-figure-put separator number room digits l m n small is fit first second =
+figure_put separator number room digits l m n small is fit first second =
     let same : digits ≡ decimal number = is ∙ decimal-of number small in
     let whole : n ≡ m ++ digits = second ∙ appended-fits room digits m (omega (arith, ap length first, length-append l (separator ∷ []))) in
     let text : (l ++ (separator ∷ [])) ++ digits ≡ l ++ (separator ∷ digits) = append_assoc l (separator ∷ []) digits in
@@ -52,10 +52,10 @@ figure-put separator number room digits l m n small is fit first second =
     ∙ ap (λ (t : List ℕ). l ++ (separator ∷ t)) same
     ∙ sym (appended-fits room (separator ∷ decimal number) l (omega (arith, ap length same)))
 
-pub figure-over : (separator number room : ℕ) (digits l : List ℕ) → number < 2 ^ 64 → digits ≡ Fmt.decimal number →
+pub figure_over : (separator number room : ℕ) (digits l : List ℕ) → number < 2 ^ 64 → digits ≡ Fmt.decimal number →
     room - length l ≤ length digits → length l ≤ room → l ≡ appended room (figure separator number) l
 unfolding figure
-figure-over separator number room digits l small is over within =
+figure_over separator number room digits l small is over within =
     let same : digits ≡ decimal number = is ∙ decimal-of number small in
     sym (appended-over room (separator ∷ decimal number) l (omega (arith, ap length same)))
 

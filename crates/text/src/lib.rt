@@ -7,7 +7,7 @@ mod reading;
 mod writing;
 
 pub use comparing::same;
-pub use pieces::{Pieces, before, piece_end, split};
+pub use pieces::{Pieces, before, split};
 pub use reading::{NumberError, read_number};
 pub use writing::{line, put_figure, put_line, put_text};
 

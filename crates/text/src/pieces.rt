@@ -1,5 +1,5 @@
 // Where a text has its separators, and its pieces between them.
-ghost use Rattle.std.specs.Prelude.{◌≡◌, ◌+◌, ◌-◌, ◌≤◌, length, drop};
+ghost use Rattle.std.specs.Prelude.{◌≡◌};
 ghost use Rattle.std.specs.Iterator.{YieldsFirstBy, item_count};
 ghost use Rattle.io.specs.Counts.{IsPrefixLen};
 ghost use Rattle.text.specs.Pieces.{before, fields};
@@ -14,34 +14,21 @@ pub fn before(text: &[u8], separator: u8) -> usize
         .unwrap_or(text.len())
 }
 
-// Where the piece that starts at a place ends: at the first separator from there on, or with the text. Past the
-// text a piece ends where it starts.
-pub fn piece_end(text: &[u8], from: usize, separator: u8) -> usize
-    ensures { let t = text.now in
-        (result ≡ from + before separator (drop from t)) × (from ≤ result) × (result ≤ from + (length t - from)) }
-{
-    if text.len() < from {
-        return from;
-    }
-    from + before(&text[from..], separator)
-}
-
-// The pieces of a text between its separators, one after the other: those from a place on are left, none past the text.
+// The pieces of a text between its separators, one after the other: `rest` is what is left of it, none past its last
+// piece. (By hand: what the library's `split` gives has the type of its closure, over which each function that takes the
+// pieces that are left would be generic.)
 #[derive(Drop)]
 pub struct Pieces<'a> {
-    text: &'a [u8],
-    from: usize,
+    rest: Option<&'a [u8]>,
     separator: u8,
 }
 
 // All pieces of a text, one more than it has separators.
-#[tactic(auto, using(crate::proofs::PieceLaws::left_all))]
 pub fn split(text: &[u8], separator: u8) -> Pieces<'_>
     ensures { pieces_left result ≡ fields separator text.now }
 {
     Pieces {
-        text,
-        from: 0,
+        rest: Some(text),
         separator,
     }
 }
@@ -54,12 +41,9 @@ impl<'a> Iterator for Pieces<'a> {
     ghost remaining = { item_count pieces_left };
 
     fn next(&mut self) -> Option<&'a [u8]> {
-        if self.text.len() < self.from {
-            return None;
-        }
-        let start = self.from;
-        let end = piece_end(self.text, start, self.separator);
-        self.from = end + 1;
-        Some(&self.text[start..end])
+        let rest = self.rest?;
+        let end = before(rest, self.separator);
+        self.rest = rest.get(end + 1..);
+        Some(&rest[..end])
     }
 }

@@ -1,6 +1,6 @@
 // A text read as a number.
 ghost use Rattle.std.specs.Prelude.{◌≡◌, true, ◌<◌, length};
-ghost use Rattle.text.specs.Decimal.{is_digit, all_digits, number_of};
+ghost use Rattle.text.specs.Decimal.{all_digits, number_of};
 
 // Why a text is no number of 32 bits.
 #[derive(Clone, Copy, Debug, PartialEq, Eq)]
@@ -24,27 +24,22 @@ pub fn read_number(text: &[u8]) -> Result<u32, NumberError>
     digits_value(text)
 }
 
-fn is_digit(byte: u8) -> bool
-    ensures { result ≡ is_digit byte }
-{
-    (b'0' <= byte) & (byte <= b'9')
-}
-
 fn all_digits(text: &[u8]) -> bool
     ensures { result ≡ all_digits text.now }
 {
-    text.iter().all(|byte| is_digit(*byte))
+    text.iter().all(u8::is_ascii_digit)
 }
 
-// The number that digits are. The value of the digits read so far is below 2^32.
+// The number that digits are. The value of the digits read so far is below 2^32. (By hand: `parse` takes a sign too, and of its
+// fault the clause tells apart too large and no digits.)
 fn digits_value(text: &[u8]) -> Result<u32, NumberError>
     requires { (0 < length text.now) × (all_digits text.now ≡ true) }
     ensures { result ≡ number_of text.now }
 {
     let mut value = 0;
     for byte in text {
-        value = 10 * value + (*byte - b'0') as u64;
-        if 4_294_967_295 < value {
+        value = 10 * value + u64::from(*byte - b'0');
+        if u64::from(u32::MAX) < value {
             return Err(NumberError::Over);
         }
     }

@@ -38,6 +38,7 @@ pub fn put_line<const N: usize>(
 }
 
 // Puts a separator and a number in decimal after a text.
+#[tactic(auto, using(crate::proofs::PutLaws::figure_put, crate::proofs::PutLaws::figure_over))]
 pub fn put_figure<const N: usize>(number: u64, separator: u8, out: &mut ArrayVec<u8, N>)
     ensures { out.new.items ≡ appended N (figure separator number) out.old.items }
 {

@@ -1,16 +1,12 @@
--- `next` meets its contract: the piece that starts where the others are left, and those after it.
-use Rattle.std.proofs.Common.{ap, arith, rules, length}
-use Rattle.text.proofs.PieceLaws.{left_past, left_next}
+-- `next` meets its contract: what stands before the next separator, and the pieces after it.
+use Rattle.base.proofs.Prelude.{ap, arith, length}
+use Rattle.text.proofs.PieceLaws.{next_piece}
 use Rattle.text.proofs.pieces.PiecesIterator.next.Goals as goal
 
-pub returns-then-self-clause-steps : goal.returns-then-self-clause-steps
-returns-then-self-clause-steps c = search (rules, left_past)
-
 pub returns-clause-steps : goal.returns-clause-steps
-returns-clause-steps c = search (rules, left_next)
+returns-clause-steps c = next_piece _ _ _ _ _ c.in_ok-rest.was c.before-end.ensures.0 c.get-self.ensures.lookup
 
 pub returns-clause-goes : goal.returns-clause-goes
 returns-clause-goes c =
-    let s = c.args.self.now in
-    let next = left_next s.separator s.from _ s.text.now (search rules) c.piece_end-end.ensures.0 in
+    let next = next_piece _ _ _ _ _ c.in_ok-rest.was c.before-end.ensures.0 c.get-self.ensures.lookup in
     record { on = λ h. (tt, tt, omega (arith, ap length next)); keeps = tt; rests = λ h. tt }
