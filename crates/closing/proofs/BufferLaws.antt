@@ -1,12 +1,15 @@
 -- The grants buffer while it is written, word by word.
 use Prim.Native.Nat.{ℕ, ◌+◌, ◌*◌, ◌/◌, ◌%◌, ◌≤◌, ◌<◌}
 use mathlib.Core.Path.{◌≡◌, refl, sym, ap, ◌∙◌}
-use mathlib.Core.List.{List}
-use native.Mathlib.Nat.{add-zero, zero-mul, suc-mul, mul-le-mul, mul-add-div_right, mul-add-mod_self_right, div-eq_of_lt, mod-eq_of_lt}
+use mathlib.Core.List.{List, []}
+use native.Mathlib.Nat.{add-zero, zero-mul, suc-mul, mul-add-div_right, mul-add-mod_self_right, div-eq_of_lt, mod-eq_of_lt}
 use native.Mathlib.Numerals.{add-one}
 use native.Mathlib.Omega.{arith}
-use lib.ListN.{length, set, length-set}
-use Rattle.base.specs.Words.{fill}
+use lib.ListN.{length, take, get_or, set, length-set}
+use Rattle.std.proofs.lemmas.List.{get_or-take, length-take}
+use Rattle.std.specs.Simd.{first_chunks}
+use Rattle.base.specs.Words.{at, fill}
+use Rattle.base.proofs.VectorLaws.{at-row, length-rows}
 use Rattle.base.proofs.WordLaws.{fill-zero, fill-turn}
 use Rattle.state.specs.Layout.{interties, holders}
 use Rattle.intertie_shares.specs.Pairs.{at_pair}
@@ -20,16 +23,20 @@ holder-of I h i l = mul-add-div_right (omega arith) h i ∙ ap (λ k. h + k) (di
 intertie-of : (I h i : ℕ) → i < I → (h * I + i) % I ≡ i
 intertie-of I h i l = mul-add-mod_self_right h I i ∙ mod-eq_of_lt l
 
--- it is a place of 32 rows of 48
-pub below-rows : (I h i : ℕ) → I ≤ 48 → h < 32 → i < I → h * I + i < 1536
-below-rows I h i few low l = omega (arith, mul-le-mul (the-most h low) few)
-  where
-    the-most : (h : ℕ) → h < 32 → h ≤ 31
-    the-most h l = omega arith
-
 -- the word of a place
 abbrev pub word : List ℕ → ℕ → ℕ
 word s p = close_grant s (p / interties s) (p % interties s)
+
+-- a word of a row, of the first H rows of a table and the first I words of each
+pub row_word : (table : List ℕ) {rows : List (List ℕ)} (H I h i : ℕ) → length table ≡ 1536 → rows ≡ first_chunks 48 (length table / 48) table → I ≤ 48 →
+    h < length (take H rows) → i < length (take I (get_or (take H rows) h [])) → (h < H) × (i < I) × (get_or (take I (get_or (take H rows) h [])) i 0 ≡ at_pair table h i)
+row_word table {rows = rows} H I h i size e few p q =
+    let low : h < H = omega (arith, length-take H rows) in
+    let inside : i < I = omega (arith, length-take I (get_or (take H rows) h [])) in
+    let all : length rows ≡ length table / 48 = ap length e ∙ length-rows 48 (length table / 48) table in
+    (low, inside,
+    get_or-take I _ i 0 inside ∙ ap (λ r. at r i) (get_or-take H rows h [] low) ∙ ap (λ r. at (get_or r h []) i) e
+    ∙ at-row 48 (length table / 48) h i table (omega (arith, length-take H rows)) (omega arith))
 
 -- the first n words of the buffer are this closing's
 pub record Writing (s first grants : List ℕ) (n : ℕ) : Type 0 where

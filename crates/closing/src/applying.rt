@@ -9,7 +9,7 @@ use base::limits::{MOST_HOLDERS, MOST_INTERTIES, MOST_PAIRS};
 use state::layout;
 
 // Writes the rows that a closing changes, raises what is placed by the grants, clears what is pending, and
-// raises the stage.
+// raises the stage. (By its number: a closing raises the word.)
 fn write_state(
     state: &mut [u32],
     unassigned: &[u64; MOST_INTERTIES],

@@ -22,22 +22,24 @@ pub(super) struct Closing<'a> {
 }
 
 impl Closing<'_> {
-    // Writes the grants into the buffer: word h·I + i has the kW of holder h on intertie i.
+    // Writes the grants into the buffer: word h·I + i has the kW of holder h on intertie i. (By place: of `chunks_mut` nothing is
+    // said of what the buffer ends as.)
     pub(super) fn write_grants(self, grants: &mut [u32])
         requires { grants_words ≤ length grants.old }
         ensures { grants.new ≡ close_grants self.entry.state.now grants.old }
     {
         let interties = state::intertie_count(self.state) as usize;
         let holders = state::holder_count(self.state) as usize;
-        for holder in 0..holders {
-            for intertie in 0..interties {
-                let kw = self.table[ROW_WORDS * holder + intertie];
-                grants[holder * interties + intertie] = kw as u32;
+        let (rows, _) = self.table.as_chunks::<MOST_INTERTIES>();
+        for (holder, row) in rows[..holders].iter().enumerate() {
+            for (intertie, kw) in row[..interties].iter().enumerate() {
+                grants[holder * interties + intertie] = *kw as u32;
             }
         }
     }
 
-    // Writes what each intertie has unassigned, less its grants.
+    // Writes what each intertie has unassigned, less its grants. (This row and the next are lent, as `read_rows` and `take_off_each`
+    // are lent theirs.)
     pub(super) fn leave_unassigned(self, row: &mut [u64; MOST_INTERTIES])
         ensures { let s = self.entry.state.now in
             ((i : ℕ) → i < interties s → at row.new i ≡ unassigned_of s i - granted_on s i) }
@@ -48,7 +50,7 @@ impl Closing<'_> {
         vectors::take_off_each(&rows[..holders], row);
     }
 
-    // Writes what each holder has unplaced, less its grants.
+    // Writes what each holder has unplaced, less its grants. (By place: what a zip of `iter_mut` lends is lost to the proof.)
     pub(super) fn leave_unplaced(self, row: &mut [u64; MOST_HOLDERS])
         ensures { let s = self.entry.state.now in
             ((h : ℕ) → h < holders s → at row.new h ≡ unplaced_of s h - granted_to s h) }

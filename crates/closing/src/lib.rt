@@ -6,10 +6,8 @@ mod grants;
 mod rows;
 mod sharing;
 
-ghost use Rattle.std.specs.Prelude.{◌≡◌, not, ◌&&◌, leb};
+ghost use Rattle.std.specs.Prelude.{◌≡◌};
 ghost use Rattle.base.specs.Refused.{number_in, answer_of};
-ghost use Rattle.base.specs.Stages.{trading_stage, second_requests_stage};
-ghost use Rattle.state.specs.Layout.{stage_of};
 ghost use Rattle.closing.specs.Close.{close_refusal, close};
 
 use base::Granted;
@@ -43,14 +41,6 @@ fn check_close(state: &[u32], grants: &[u32]) -> Result<(), Refusal>
 {
     call::refuse_if(grants.len() < GRANTS_WORDS, Refusal::Room)?;
     orderly::check_state(state)?;
-    call::refuse_if(no_closing(state), Refusal::Stage)
-}
-
-// Refusal 7: whether the stage has no closing.
-fn no_closing(state: &[u32]) -> bool
-    ensures { let stage = stage_of state.now in
-        result ≡ not (leb trading_stage stage && leb stage second_requests_stage) }
-{
-    let stage = state::stage(state);
-    !((Stage::Trading.number() <= stage) & (stage <= Stage::SecondRequests.number()))
+    let stages = [Stage::Trading, Stage::FirstRequests, Stage::SecondRequests];
+    call::refuse_if(!call::is_in(state, &stages), Refusal::Stage)
 }

@@ -12,7 +12,7 @@ use base::refusals::Refusal;
 use state::layout;
 
 // Writes what each pair is granted into a table, and hands back kW and passes over all interties. In
-// stage 1 nothing is pending, so nothing is granted. No share-out of a closing is refused.
+// stage 1 nothing is pending, so nothing is granted. No share-out of a closing is refused. (The table is lent on to what fills it.)
 pub(super) fn share_out_pending(
     state: &[u32],
     table: &mut [u64; MOST_PAIRS],
