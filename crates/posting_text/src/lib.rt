@@ -17,7 +17,7 @@ use state::layout::ROW_WORDS;
 use text::put_line;
 
 // The most figures of a line: an intertie's number, limit, outside, E, P, N, unassigned.
-const LINE_FIGURES: usize = 1 + rows::LOAD_SHARE - rows::LIMIT;
+const LINE_FIGURES: usize = 2 + rows::UNASSIGNED - rows::LIMIT;
 
 // The most bytes of a line: a letter, seven numbers of at most 20 digits, each after a blank, and the end of the line.
 const LINE_BYTES: usize = 149;
@@ -39,7 +39,7 @@ pub fn posting_text(sheet: &[u8]) -> ArrayVec<u8, TEXT_BYTES>
             put_lines(
                 b'I',
                 rows::LIMIT,
-                rows::LOAD_SHARE,
+                rows::UNASSIGNED + 1,
                 interties,
                 &numbers,
                 &mut text,
@@ -47,7 +47,7 @@ pub fn posting_text(sheet: &[u8]) -> ArrayVec<u8, TEXT_BYTES>
             put_lines(
                 b'H',
                 rows::LOAD_SHARE,
-                rows::ROWS,
+                rows::STEP_5_SHARE + 1,
                 holders,
                 &numbers,
                 &mut text,
