@@ -1,4 +1,3 @@
-pub mod KeyLaws
 pub mod LineLaws
 pub mod DraftLaws
 pub mod FitLaws
