@@ -70,14 +70,14 @@ record_drafted key kw b e packed h rank eh ek er before after made l of =
 
 -- a pair with a lock
 module _ (state : List ℕ) (h i locked : ℕ) (e : locked ≡ locked_of state h i) (before : Drafted) where
-  pub a_lock : locked ≢ 0 → h < 64 → (packed rank term : ℕ) → term ≡ term_of state h i → rank ≡ at before.ranks h + 1 → packed ≡ cut_key 6 h i rank term →
+  pub a_lock : locked ≢ 0 → h < 64 → (packed kind rank term : ℕ) → kind ≡ 6 → term ≡ term_of state h i → rank ≡ at before.ranks h + 1 → packed ≡ cut_key kind h i rank term →
       (after : Drafted) → after ≡ with_record packed locked h rank before → Adds (with_lock state h i) before after
-  a_lock some low packed rank term et er ek after made l of =
+  a_lock some low packed kind rank term sixth et er ek after made l of =
       either_way (λ (m : List Line). DraftOf m after) (ltb 0 (locked_of state h i)) l (lock_line state h i l)
       (λ _.
       let next : rank ≡ highest h l + 1 = er ∙ ap (λ (k : ℕ). k + 1) (of.rank_is h low) in
       let own : rank_for h (lock_line state h i l) ≡ highest h l + 1 = rw (eq-eqb h h refl) refl in
-      rw made (draft-more l before of (lock_line state h i l) packed locked h rank refl low (rw (← next, ← et) ek) e (next ∙ sym own)))
+      rw made (draft-more l before of (lock_line state h i l) packed locked h rank refl low (rw (← next, ← et) (ek ∙ ap (λ (k : ℕ). cut_key k h i rank term) sixth)) e (next ∙ sym own)))
       (λ f. absurd (some (omega (arith, ltb-false 0 (locked_of state h i) f))))
 
 -- how many lines a draft has

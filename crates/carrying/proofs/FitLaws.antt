@@ -1,10 +1,11 @@
 -- The lines of next year's sheet fit the widths of a key, so the drafted keys and quantities are theirs.
-use Rattle.std.proofs.Common.{ℕ, zero, suc, ◌+◌, ◌-◌, ◌*◌, ◌≤◌, ◌<◌, ◌≡◌, refl, sym, ap, ◌∙◌, Bool, true, false, ◌||◌, not, ◌⊎◌, inl, inr, ⊎_elim, List, [], ◌∷◌, map, le_trans, not-suc-le-zero, le_of_suc-le-suc, arith, ltb, leb, length, take, ext_get_or, get_or-take, length-take-le, eq-eqb, ltb-true, ltb-false, leb-true}
+use Rattle.std.proofs.Common.{ℕ, zero, suc, ◌+◌, ◌-◌, ◌*◌, ◌≤◌, ◌<◌, ◌≡◌, refl, sym, ap, ◌∙◌, Bool, true, false, ◌||◌, not, ◌⊎◌, inl, inr, ⊎_elim, List, [], ◌∷◌, map, le_trans, not-suc-le-zero, le_of_suc-le-suc, arith, ltb, leb, length, take, ext_get_or, get_or-take, length-take-le, eq-eqb, lt-ltb, le-ltb, le-leb, ltb-true, ltb-false, leb-true}
 use native.Mathlib.Nat.{le-max_left, le-max_right}
 use lib.ListN.{length-map, get_or-map}
-use Rattle.std.specs.List.{list_all}
+use Rattle.std.specs.List.{list_all, list_any}
 use Rattle.base.proofs.ListLaws.{all_places}
-use borrow.Author.Tests.{not-false}
+use native.Mathlib.Decide.{dec_lt}
+use borrow.Author.Tests.{not-false, lt-leb}
 use Rattle.base.specs.Sums.{all_to}
 use Rattle.base.specs.Words.{at}
 use Rattle.base.proofs.ChoiceLaws.{pick-by, or_left, or_right}
@@ -97,18 +98,28 @@ module _ (H : ℕ) (l : List Line) (fit : AllFit H l) (low : all_to H (λ h. leb
       let c : j < length l = rw (← length-map l line_key) b in
       get_or-map line_key l j no_line ∙ key_fits j c ∙ sym (get_or-map key_of l j no_line))
 
+-- a rank over 255 is one that isn't within
+any-over : (l : List ℕ) → list_any (λ r. ltb 255 r) l ≡ not (list_all (λ r. leb r 255) l)
+any-over [] = refl
+any-over (x ∷ l) =
+    elim (dec_lt 255 x) [
+      | yes over ↦ rw (lt-ltb 255 x over, lt-leb x 255 over) refl
+      | no within ↦ rw (le-ltb 255 x (omega arith), le-leb x 255 (omega arith)) (any-over l)
+    ]
+
 -- the draft's test of refusal 14 is the lines'
 pub fit_same : (l : List Line) (d : Drafted) → DraftOf l d → (keys kws ranks : List ℕ) (n : ℕ) → Tables keys kws ranks n → shown keys kws ranks n ≡ d →
-    (H room : ℕ) → H ≤ 32 → (b : Bool) → b ≡ list_all (λ r. leb r 255) (take H ranks) →
-    (ltb 1024 n || not b || ltb room (size_of n)) ≡ does_not_fit H l room
+    (H room : ℕ) → H ≤ 32 → (b : Bool) → b ≡ list_any (λ r. ltb 255 r) (take H ranks) →
+    (ltb 1024 n || b || ltb room (size_of n)) ≡ does_not_fit H l room
 unfolding does_not_fit
 fit_same l d of keys kws ranks n t v H room few b e =
     let size : length (take H ranks) ≡ H = length-take-le H ranks (omega (arith, t.rank-places)) in
     let count : n ≡ length l = sym (shown-few keys kws ranks n t) ∙ ap (λ (x : Drafted). length x.keys) v ∙ draft-few l d of in
-    let ranked : b ≡ all_to H (λ h. leb (highest h l) 255) =
-    e ∙ all_places (λ r. leb r 255) (take H ranks) ∙ ap (λ (k : ℕ). all_to k (λ h. leb (at (take H ranks) h) 255)) size
+    let ranked : b ≡ not (all_to H (λ h. leb (highest h l) 255)) =
+    e ∙ any-over (take H ranks) ∙ ap not
+    (all_places (λ r. leb r 255) (take H ranks) ∙ ap (λ (k : ℕ). all_to k (λ h. leb (at (take H ranks) h) 255)) size
     ∙ all_to-same H (λ h. leb (at (take H ranks) h) 255) (λ h. leb (highest h l) 255)
-    (λ h m. ap (λ (r : ℕ). leb r 255) (get_or-take H ranks h 0 m ∙ ap (λ (x : Drafted). at x.ranks h) v ∙ of.rank_is h (omega arith))) in
+    (λ h m. ap (λ (r : ℕ). leb r 255) (get_or-take H ranks h 0 m ∙ ap (λ (x : Drafted). at x.ranks h) v ∙ of.rank_is h (omega arith)))) in
     rw (ranked, count) refl
 
 -- what lines that fit say

@@ -1,5 +1,5 @@
 // A draft of next year's sheet, made before a byte of it is written: what goes on of the old sheet, then the locks.
-ghost use Rattle.std.specs.Prelude.{◌≡◌, false, List, [], ◌++◌, ℕ, ◌+◌, ◌*◌, ◌≤◌, ◌<◌, length};
+ghost use Rattle.std.specs.Prelude.{◌≡◌, false, List, [], ◌++◌, ◌+◌, ◌*◌, ◌≤◌, ◌<◌, length};
 ghost use Rattle.base.specs.Choice.{pick};
 ghost use Rattle.base.specs.Limits.{most_holders, most_interties, most_records, most_rank};
 ghost use Rattle.sheet_keys.specs.Key.{key_holders};
@@ -60,7 +60,7 @@ impl Draft {
     }
 
     // Writes a record after the others, and counts it and its rank if it is one that goes on. Both ways do the same, since a
-    // branch would be taken at random.
+    // branch would be taken at random. (Holder and rank beside the key, since a lock's rank may be more than a key can say.)
     fn put(&mut self, on: bool, key: u32, kw: u32, holder: usize, rank: u32)
         requires { (length self.old.keys < places) × (holder < key_holders) × (rank ≤ most_rank + length self.old.keys + 1) }
         ensures { self.new ≡ pick on (with_record key kw holder rank self.old) self.old }
@@ -111,7 +111,7 @@ impl Draft {
         let term = state::pair_word(state, layout::TERM, holder, intertie);
         let rank = self.ranks[holder as usize] + 1;
         let key = u32::from(Key {
-            kind: Kind::NewUseCommitment as u32,
+            kind: Kind::NewUseCommitment.number(),
             holder,
             intertie,
             rank,
@@ -149,7 +149,7 @@ impl Draft {
         ensures { (lines : List Line) → DraftOf lines self.now → result ≡ does_not_fit holders lines room }
     {
         (MOST_RECORDS < self.count)
-            | !self.ranks[..holders].iter().all(|rank| *rank <= MOST_RANK)
+            | self.ranks[..holders].iter().any(|rank| MOST_RANK < *rank)
             | (room < SHEET_HEADER_BYTES + RECORD_BYTES * self.count)
     }
 

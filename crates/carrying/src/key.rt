@@ -7,11 +7,12 @@ ghost use Rattle.carrying.specs.Workers.Draft.{line_key};
 use base::kinds::Kind;
 use sheet_keys::key::Key;
 
-// Whether a key is of kind 1, 2 or 3, which have no years.
+// Whether a key is of kind 1, 2 or 3, which have no years. (Kinds by their numbers, here and below: a key may hold one that has no
+// name.)
 fn yearless(key: u32) -> bool
     ensures { result ≡ yearless key }
 {
-    Key::from(key).kind <= Kind::LoadShare as u32
+    Key::from(key).kind <= Kind::LoadShare.number()
 }
 
 // Whether a record goes on into the next year.
@@ -42,12 +43,13 @@ pub(crate) fn next_key(key: u32) -> u32
     })
 }
 
-// The rank of a New Use commitment, 0 of a key of another kind.
+// The rank of a New Use commitment, 0 of a key of another kind. (0 raises no holder's highest rank; an Option would be taken apart
+// for `max`.)
 pub(crate) fn new_use_rank(key: u32) -> u32
     ensures { result ≡ rank_for (holder_of key) (next_line key 0) }
 {
     let fields = Key::from(key);
-    if fields.kind == Kind::NewUseCommitment as u32 {
+    if fields.kind == Kind::NewUseCommitment.number() {
         fields.rank
     } else {
         0
