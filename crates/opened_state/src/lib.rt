@@ -188,7 +188,8 @@ impl Source<'_> {
 
 // Writes every word of an opened state, of a number over 32 bits its low ones: the sizes, the sheet's
 // limits, outside rights, load shares and E, and what the steps gave. Does nothing where the state is
-// under 16,000 words, or there are over 48 interties or over 32 holders. (Nothing, and no error: who calls it has tested them.)
+// under 16,000 words, or there are over 48 interties or over 32 holders. (Nothing, and no error: who calls it has tested them.
+// Not base's `sizes_in_range`, which asks for one of each.)
 pub fn write_state(state: &mut [u32], read: Read<'_>, figures: &Figures)
     ensures { let r = read.entry in state.new ≡ written r.tables.now r.interties r.holders figures.now state.old }
 {

@@ -18,7 +18,7 @@ use base::limits::{MOST_HOLDERS, MOST_INTERTIES, MOST_KW, MOST_LOAD_SHARE, MOST_
 use base::vectors::all_within;
 use sheet_reading::tables::{LOAD_SHARES, Read};
 
-// Whether sizes, limits and load shares are in range.
+// Whether sizes, limits and load shares are in range. (Not base's `sizes_in_range`, which asks for one of each.)
 fn fit_tables(read: Read<'_>) -> bool
     ensures { let r = read.entry in result ≡ fit_tables r.tables.now.kw r.interties r.holders }
 {
