@@ -75,7 +75,9 @@ pub fn take(
     })
 }
 
-// The first refusal that applies to a taking.
+// The first refusal that applies to a taking. (State, holder, intertie, kW and day one by one, as C passes them: each function
+// takes only those that it needs, as its definition does. Here and in holding's `check_lock` what `call::check_open` tries stands
+// as two lines: both definitions try the two numbers one by one.)
 #[tactic(auto, using(call::proofs::LadderLaws::passes, call::proofs::LadderLaws::stops), unfolding(crate::specs::Take::take_refusal))]
 fn check_take(state: &[u32], holder: u32, intertie: u32, kw: u64, day: u32) -> Result<(), Refusal>
     ensures { number_in result ≡ take_refusal state.now holder intertie kw day }
