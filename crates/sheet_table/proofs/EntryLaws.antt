@@ -12,7 +12,7 @@ use Rattle.sheet_records.specs.Sheet.{most_word}
 use Rattle.sheet_table.specs.Fields.{within, kind_in, flaw, with_number, numbers_in, sizes_as, sizes_in, entry_as, entry_in}
 use Rattle.sheet_table.specs.Workers.Steps.{entry_of}
 use Rattle.sheet_table.specs.declared.faults.Fault.{Fault}
-use Rattle.sheet_table.specs.declared.fields.Entry.{Entry}
+use Rattle.sheet_records.specs.declared.reader.Record.{Record}
 use Rattle.sheet_table.specs.declared.fields.Flaw.{Flaw}
 use Rattle.sheet_table.proofs.FieldLaws.{numbers-within}
 
@@ -50,10 +50,10 @@ widths fs n e =
 
 -- a record
 module _ (fs rest : List (List ℕ)) (name : List ℕ) (is : name ≡ get_or fs 0 []) (later : rest ≡ drop 1 fs) where
-  abbrev after_kind : Result ℕ Fault → Result Entry Flaw
+  abbrev after_kind : Result ℕ Fault → Result Record Flaw
   after_kind r = entry_as (with_number 1 r (numbers_in 2 mosts (drop 1 fs)))
 
-  pub kind-read : (kind : ℕ) (r : Result Entry Flaw) → Ok kind ≡ within 15 (kind_in name) → r ≡ entry_of kind rest → r ≡ entry_in fs
+  pub kind-read : (kind : ℕ) (r : Result Record Flaw) → Ok kind ≡ within 15 (kind_in name) → r ≡ entry_of kind rest → r ≡ entry_in fs
   unfolding entry_in entry_of
   kind-read kind r e entry =
       entry ∙ ap (entry_of kind) later ∙ ap after_kind e ∙ ap (λ t. after_kind (within 15 (kind_in t))) is

@@ -18,7 +18,7 @@ use Rattle.sheet_table.specs.Lines.{bare, entry_on, entry_of, with_entry, past_l
 use Rattle.sheet_table.specs.Workers.Steps.{entries_at}
 use Rattle.sheet_table.specs.declared.faults.Fault.TheVariants.{TooManyRecords}
 use Rattle.sheet_table.specs.declared.faults.Unreadable.{Unreadable}
-use Rattle.sheet_table.specs.declared.fields.Entry.{Entry}
+use Rattle.sheet_records.specs.declared.reader.Record.{Record}
 use Rattle.sheet_table.specs.declared.fields.Flaw.{Flaw}
 
 -- what a line says, by cases
@@ -32,12 +32,12 @@ module _ (number count : ℕ) (line : List ℕ) where
     unfolding entry_of
     line-over many = rw (ne_eqb (length line) 0 some, le-leb 1024 count many) refl
 
-    pub line-says : count < 1024 → (said : Result Entry Flaw) → said ≡ entry_in (fields comma line) → entry_on number said ≡ entry_of number count line
+    pub line-says : count < 1024 → (said : Result Record Flaw) → said ≡ entry_in (fields comma line) → entry_on number said ≡ entry_of number count line
     unfolding entry_of
     line-says room said is = ap (entry_on number) is ∙ rw (ne_eqb (length line) 0 some, lt-leb 1024 count room) refl
 
   -- a line with a record has room for it
-  pub line-room : (entry : Entry) → Ok (Some entry) ≡ entry_of number count line → count < 1024
+  pub line-room : (entry : Record) → Ok (Some entry) ≡ entry_of number count line → count < 1024
   unfolding entry_of
   line-room entry e =
       by-test (eqb (length line) 0)
@@ -47,21 +47,21 @@ module _ (number count : ℕ) (line : List ℕ) where
       (λ t. let wrong : Ok (Some entry) ≡ Err (record { line = number; column = 1; fault = TooManyRecords }) = e ∙ rw (f, t) refl in absurd (omega (arith, ap filled wrong)))
       (λ g. leb-false 1024 count g))
     where
-      filled : Result (Option Entry) Unreadable → ℕ
+      filled : Result (Option Record) Unreadable → ℕ
       filled (Ok (Some e)) = 1
       filled (Ok None) = 0
       filled (Err u) = 0
 
 -- records that were read, before those that a later reading gives
-abbrev pub before : List Entry → Result (List Entry) Unreadable → Result (List Entry) Unreadable
+abbrev pub before : List Record → Result (List Record) Unreadable → Result (List Record) Unreadable
 before front (Ok entries) = Ok (front ++ entries)
 before front (Err unreadable) = Err unreadable
 
-pub before-entry : (front : List Entry) (entry : Entry) (later : Result (List Entry) Unreadable) → before front (with_entry entry later) ≡ before (front ++ (entry ∷ [])) later
+pub before-entry : (front : List Record) (entry : Record) (later : Result (List Record) Unreadable) → before front (with_entry entry later) ≡ before (front ++ (entry ∷ [])) later
 before-entry front entry (Ok entries) = ap Ok (sym (append_assoc front (entry ∷ []) entries))
 before-entry front entry (Err unreadable) = refl
 
-pub before-none : (later : Result (List Entry) Unreadable) → later ≡ before [] later
+pub before-none : (later : Result (List Record) Unreadable) → later ≡ before [] later
 before-none (Ok entries) = refl
 before-none (Err unreadable) = refl
 
@@ -87,7 +87,7 @@ entries-kept (suc n) m x y keys kws low =
     let other : n ≢ m = λ e. absurd (omega arith) in
     rw (get_or-set_other keys m n x 0 other, get_or-set_other kws m n y 0 other, entries-kept n m x y keys kws (omega arith)) refl
 
-pub entries-next : (n : ℕ) (entry : Entry) (keys kws : List ℕ) → n < length keys → n < length kws →
+pub entries-next : (n : ℕ) (entry : Record) (keys kws : List ℕ) → n < length keys → n < length kws →
     entries_at (n + 1) (set keys n entry.key) (set kws n entry.kw) ≡ entries_at n keys kws ++ (entry ∷ [])
 unfolding entries_at
 entries-next n entry keys kws k q =
@@ -117,9 +117,9 @@ lines_begin keys kws lines place none =
     ∙ ap (λ l. before l (entries_of 2 0 lines)) (sym (entries_none keys kws))
     ∙ ap (λ n. before (entries_at 0 keys kws) (entries_of (n + 2) 0 lines)) (sym none)
 
-module _ (place count : ℕ) (keys kws : List ℕ) (left : List (List ℕ)) (whole : Result (List Entry) Unreadable)
+module _ (place count : ℕ) (keys kws : List ℕ) (left : List (List ℕ)) (whole : Result (List Record) Unreadable)
     (so_far : whole ≡ before (entries_at count keys kws) (entries_of (place + 2) count (map bare left))) where
-  module _ (line : List ℕ) (others : List (List ℕ)) (are : left ≡ line ∷ others) (said : Result (Option Entry) Unreadable) (is : said ≡ entry_of (place + 2) count (bare line)) where
+  module _ (line : List ℕ) (others : List (List ℕ)) (are : left ≡ line ∷ others) (said : Result (Option Record) Unreadable) (is : said ≡ entry_of (place + 2) count (bare line)) where
     here : whole ≡ before (entries_at count keys kws) (past_line said (entries_of (suc (place + 2)) count (map bare others)) (entries_of (suc (place + 2)) (suc count) (map bare others)))
     here =
         so_far
@@ -140,7 +140,7 @@ module _ (place count : ℕ) (keys kws : List ℕ) (left : List (List ℕ)) (who
         ∙ ap (λ o. before (entries_at count keys kws) (past_line o (entries_of (suc (place + 2)) count (map bare others)) (entries_of (suc (place + 2)) (suc count) (map bare others)))) e
         ∙ ap (λ n. before (entries_at count keys kws) (entries_of n count (map bare others))) next
 
-    pub lines-take : (entry : Entry) → said ≡ Ok (Some entry) → count < length keys → count < length kws →
+    pub lines-take : (entry : Record) → said ≡ Ok (Some entry) → count < length keys → count < length kws →
         whole ≡ before (entries_at (count + 1) (set keys count entry.key) (set kws count entry.kw)) (entries_of (place + 1 + 2) (count + 1) (map bare others))
     lines-take entry e k q =
         here

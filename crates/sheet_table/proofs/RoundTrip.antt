@@ -22,7 +22,7 @@ use Rattle.std.specs.Prelude.{Result, Ok}
 use Rattle.sheet_table.specs.Fields.{comma, sizes_in}
 use Rattle.sheet_table.specs.Lines.{bare, lines_of, entries_of, past_line, sizes_on, first_fields, later_lines, sheet_with, sheet_of, length_of, converted, written_by, converted_into}
 use Rattle.sheet_table.specs.Table.{label_of, row_of, rows_of, sizes_line, table_of}
-use Rattle.sheet_table.specs.declared.fields.Entry.{Entry}
+use Rattle.sheet_records.specs.declared.reader.Record.{Record}
 use Rattle.sheet_table.specs.declared.faults.Unreadable.{Unreadable}
 use Rattle.sheet_records.proofs.BytesLaws.{bytes-append, bytes_one}
 use Rattle.sheet_table.proofs.ReadingLaws.{before, before-none, before-entry, map-append, entries-cons, entries-end, line-empty}
@@ -113,7 +113,7 @@ module _ (s : List ℕ) (bytes : (i : ℕ) → at s i < 256) where
       ∙ ap (λ (l : List ℕ). lines k ++ (l ∷ [])) (Row.text-bare (key_at s k) (kw_at s k) (word_below s (12 + 4 * k) bytes) (word_below s (12 + 4 * count s + 4 * k) bytes))
 
   -- the first k records
-  recs : ℕ → List Entry
+  recs : ℕ → List Record
   recs zero = []
   recs (suc k) = recs k ++ (record { key = key_at s k; kw = kw_at s k } ∷ [])
 
@@ -133,7 +133,7 @@ module _ (s : List ℕ) (bytes : (i : ℕ) → at s i < 256) where
   lines-read zero ls few = before-none (entries_of 2 0 ls)
   lines-read (suc k) ls few =
       let next : suc (k + 2) ≡ suc k + 2 = omega arith in
-      let entry : Entry = record { key = key_at s k; kw = kw_at s k } in
+      let entry : Record = record { key = key_at s k; kw = kw_at s k } in
       ap (entries_of 2 0) (append_assoc (lines k) (line k ∷ []) ls)
       ∙ lines-read k (line k ∷ ls) (omega arith)
       ∙ ap (before (recs k))
@@ -211,7 +211,7 @@ module _ (s : List ℕ) (bytes : (i : ℕ) → at s i < 256) where
     sheet-back : sheet_of (table_of s) ≡ Ok s
     unfolding sheet_of
     sheet-back =
-        let lines : Result (List Entry) Unreadable = entries_of 2 0 (later_lines (table_of s)) in
+        let lines : Result (List Record) Unreadable = entries_of 2 0 (later_lines (table_of s)) in
         ap (λ f. sheet_with (sizes_on (sizes_in f)) lines) first-fields
         ∙ ap (λ z. sheet_with (sizes_on z) lines) (Row.sizes-back (interties s) (holders s) (small 0) (small 4))
         ∙ ap (sheet_with (Ok (record { interties = interties s; holders = holders s }))) reading

@@ -1,30 +1,33 @@
 -- How long the lines of a table are, and what writing them leaves.
 use Prim.Native.Nat.{ℕ, zero, suc, ◌+◌, ◌*◌, ◌/◌, ◌%◌, ◌^◌, ◌≤◌, ◌<◌}
 use mathlib.Core.Path.{◌≡◌, refl, sym, ap, ◌∙◌}
-use mathlib.Core.Bool.{false}
-use mathlib.Core.Logic.{◌≢◌}
+use mathlib.Core.Bool.{true, false, not, ◌&&◌}
 use mathlib.Core.List.{List, [], ◌∷◌, ◌++◌, append_assoc, append-nil}
 use native.Mathlib.Nat.{pow-suc}
 use native.Mathlib.Numerals.{add-one}
 use native.Mathlib.Omega.{arith}
-use lib.Dec.{ltb, eqb}
-use lib.ListN.{length, length-append, take}
-use borrow.Author.Tests.{eq-eqb, ne_eqb, ltb-false}
+use lib.Dec.{ltb, leb, eqb}
+use lib.ListN.{length, length-append}
+use borrow.Author.Tests.{eq-eqb, ltb-false}
 use Rattle.base.specs.Words.{at}
 use Rattle.base.proofs.ChoiceLaws.{pick-by}
 use Rattle.text.specs.Decimal.{digit, decimal, decimal_to}
 use Rattle.text.specs.Lines.{line_end, figure, figures_of, line_of, bounded_line}
-use Rattle.text.proofs.DecimalLaws.{spelled_is}
+use Rattle.text.proofs.DecimalLaws.{decimal-of}
 use Rattle.text.proofs.LineLaws.{line-stands}
 use Rattle.text.specs.Written.{appended}
 use Rattle.text.proofs.PutLaws.{appended-fits}
-use Rattle.io.specs.Digits.{last_digits, IsDigitCount}
+use Rattle.std.specs.Fmt as Fmt
+use Rattle.base.specs.Kind.{number_of}
+use Rattle.base.specs.declared.kinds.Kind.{Kind}
+use Rattle.base.specs.declared.kinds.Kind.TheVariants.{Limit, OutsideRight, LoadShare, ExistingContract, PreRaCommitment, NewUseCommitment}
 use Rattle.sheet_keys.specs.Key.{kind_of, holder_of, intertie_of, rank_of, years_of}
 use Rattle.sheet_records.specs.Sheet.{count, key_at, kw_at}
 use Rattle.sheet_records.specs.Refusal.{bad_length}
 use Rattle.sheet_records.proofs.RefusalLaws.{whole as whole-sheet}
 use Rattle.sheet_records.proofs.ReadingLaws.{word_below}
-use Rattle.sheet_table.specs.Kinds.{name_of}
+use Rattle.sheet_table.specs.Kinds.{name, name_of}
+use Rattle.sheet_table.proofs.KindLaws.{no_name}
 use Rattle.sheet_table.specs.Fields.{comma}
 use Rattle.sheet_table.specs.Table.{label_of, row_of, rows_of}
 
@@ -128,44 +131,45 @@ rows_few sheet (suc k) bytes =
       row-few (key_at sheet k) (kw_at sheet k) (word_below sheet _ bytes) (word_below sheet _ bytes),
     )
 
--- the digits of a label
-pub label-digits : (n count : ℕ) (text : List ℕ) → n ≤ 4_294_967_295 → IsDigitCount 10 1 n count → take count text ≡ last_digits 10 count n → take count text ≡ decimal n
-label-digits n count text small fewest spelled = spelled_is n count (take count text) (omega arith) fewest spelled
-
 -- the first line, with the digits of I as its label
-pub sizes-put : (I H : ℕ) (label l m : List ℕ) → label ≡ decimal I → I ≤ 4_294_967_295 → m ≡ appended 34838 (bounded_line label comma (H ∷ [])) l
+pub sizes-put : (I H : ℕ) (label l m : List ℕ) → label ≡ Fmt.decimal I → I ≤ 4_294_967_295 → m ≡ appended 34838 (bounded_line label comma (H ∷ [])) l
     → m ≡ appended 34838 (line_of (decimal I) comma (H ∷ [])) l
-sizes-put I H label l m same i put =
+sizes-put I H label l m spelled i put =
+    let same : label ≡ decimal I = spelled ∙ decimal-of I (omega arith) in
     put
     ∙ ap (λ (t : List ℕ). appended 34838 t l) (line-stands label comma (H ∷ []) (omega (arith, ap length same, few-digits 19 9 I (omega arith))) (omega arith))
     ∙ ap (λ (t : List ℕ). appended 34838 (line_of t comma (H ∷ [])) l) same
 
 -- the label of a kind that has a name, and of one that has none
-module _ (kind : ℕ) (name : List ℕ) (is : name ≡ name_of kind) where
-  pub label-name : length name ≢ 0 → name ≡ label_of kind
-  unfolding label_of
-  label-name some = is ∙ rw (ne_eqb (length (name_of kind)) 0 (λ z. some (ap length is ∙ z))) refl
+own-label : (kind : Kind) → name kind ≡ label_of (number_of kind)
+unfolding label_of name_of
+own-label Limit = refl
+own-label OutsideRight = refl
+own-label LoadShare = refl
+own-label ExistingContract = refl
+own-label PreRaCommitment = refl
+own-label NewUseCommitment = refl
 
-  pub label-number : length name ≡ 0 → (count : ℕ) (text : List ℕ) → kind ≤ 4_294_967_295 → IsDigitCount 10 1 kind count →
-      take count text ≡ last_digits 10 count kind →
-      take count text ≡ label_of kind
-  unfolding label_of
-  label-number none count text small fewest spelled =
-      label-digits kind count text small fewest spelled
-      ∙ rw (eq-eqb (length (name_of kind)) 0 (sym (ap length is) ∙ none)) refl
+pub label-name : (kind : Kind) (n : ℕ) (label : List ℕ) → number_of kind ≡ n → label ≡ name kind → label ≡ label_of n
+label-name kind n label e is = is ∙ own-label kind ∙ ap label_of e
+
+pub label-number : (n : ℕ) (label : List ℕ) → not (leb 1 n && leb n 6) ≡ true → n ≤ 4_294_967_295 → label ≡ Fmt.decimal n → label ≡ label_of n
+unfolding label_of
+label-number n label other small spelled =
+    spelled ∙ decimal-of n (omega arith) ∙ rw (eq-eqb (length (name_of n)) 0 (ap length (no_name n other))) refl
 
 -- the line of a record, with its label and its figures
-module _ (key kw kind h i r y : ℕ) (label : List ℕ) (k : kind ≡ kind_of key) (same : label ≡ label_of kind)
-    (eh : h ≡ holder_of key) (ei : i ≡ intertie_of key) (er : r ≡ rank_of key) (ey : y ≡ years_of key) where
-  row_is : line_of label comma (h ∷ i ∷ r ∷ y ∷ kw ∷ []) ≡ row_of key kw
+module _ (key kw kind h i r y q : ℕ) (label : List ℕ) (k : kind ≡ kind_of key) (same : label ≡ label_of kind)
+    (eh : h ≡ holder_of key) (ei : i ≡ intertie_of key) (er : r ≡ rank_of key) (ey : y ≡ years_of key) (eq : q ≡ kw) where
+  row_is : line_of label comma (h ∷ i ∷ r ∷ y ∷ q ∷ []) ≡ row_of key kw
   unfolding row_of
-  row_is = rw (same, k, eh, ei, er, ey) refl
+  row_is = rw (same, k, eh, ei, er, ey, eq) refl
 
-  pub row_put : (l m : List ℕ) → m ≡ appended 34838 (bounded_line label comma (h ∷ i ∷ r ∷ y ∷ kw ∷ [])) l → m ≡ appended 34838 (row_of key kw) l
+  pub row_put : (l m : List ℕ) → m ≡ appended 34838 (bounded_line label comma (h ∷ i ∷ r ∷ y ∷ q ∷ [])) l → m ≡ appended 34838 (row_of key kw) l
   row_put l m put =
       put
       ∙ ap (λ (t : List ℕ). appended 34838 t l)
-      (line-stands label comma (h ∷ i ∷ r ∷ y ∷ kw ∷ []) (omega (arith, ap length same, label-few kind (omega arith))) (omega arith) ∙ row_is)
+      (line-stands label comma (h ∷ i ∷ r ∷ y ∷ q ∷ []) (omega (arith, ap length same, label-few kind (omega arith))) (omega arith) ∙ row_is)
 
 -- a loop that puts the rows of a sheet after the first line: before the first turn, a turn, and after the last
 pub rows_none : (sheet : List ℕ) (k : ℕ) (l : List ℕ) → k ≡ 0 → l ≡ l ++ rows_of sheet k

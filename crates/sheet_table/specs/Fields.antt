@@ -15,17 +15,21 @@ use Rattle.sheet_table.specs.declared.faults.Fault.{Fault}
 use Rattle.sheet_table.specs.declared.faults.Fault.TheVariants.{NotNumber, TooLarge, WrongFields}
 use Rattle.sheet_table.specs.declared.fields.Flaw.{Flaw}
 use Rattle.sheet_table.specs.declared.fields.Sizes.{Sizes}
-use Rattle.sheet_table.specs.declared.fields.Entry.{Entry}
+use Rattle.sheet_records.specs.declared.reader.Record.{Record}
 
 -- what stands between fields
 abbrev pub comma : ℕ
 comma = code ","
 
+-- what is wrong with a field that is no number
+abbrev pub fault_of : NumberError → Fault
+fault_of Over = TooLarge
+fault_of Bad = NotNumber
+
 -- a number where at most so much may stand
 abbrev pub within : ℕ → Result ℕ NumberError → Result ℕ Fault
 within most (Ok n) = pick (ltb most n) (Err TooLarge) (Ok n)
-within most (Err Over) = Err TooLarge
-within most (Err Bad) = Err NotNumber
+within most (Err error) = Err (fault_of error)
 
 -- a kind, by its name or by its number
 abbrev pub kind_or : Option Kind → Result ℕ NumberError → Result ℕ NumberError
@@ -62,11 +66,11 @@ unfoldable pub sizes_in : List (List ℕ) → Result Sizes Flaw
 sizes_in fields = sizes_as (numbers_in 1 (most_word ∷ most_word ∷ []) fields)
 
 -- a record: kind, holder, intertie, rank and years within their widths, kilowatts
-abbrev pub entry_as : Result (List ℕ) Flaw → Result Entry Flaw
+abbrev pub entry_as : Result (List ℕ) Flaw → Result Record Flaw
 entry_as (Ok n) = Ok (record { key = key_from (at n 0) (at n 1) (at n 2) (at n 3) (at n 4); kw = at n 5 })
 entry_as (Err first) = Err first
 
-unfoldable pub entry_in : List (List ℕ) → Result Entry Flaw
+unfoldable pub entry_in : List (List ℕ) → Result Record Flaw
 entry_in fields =
     entry_as
     (with_number 1 (within (key_kinds - 1) (kind_in (get_or fields 0 [])))

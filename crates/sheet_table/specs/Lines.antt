@@ -12,7 +12,7 @@ use Rattle.sheet_table.specs.declared.faults.Fault.TheVariants.{TooManyRecords}
 use Rattle.sheet_table.specs.declared.faults.Unreadable.{Unreadable}
 use Rattle.sheet_table.specs.declared.fields.Flaw.{Flaw}
 use Rattle.sheet_table.specs.declared.fields.Sizes.{Sizes}
-use Rattle.sheet_table.specs.declared.fields.Entry.{Entry}
+use Rattle.sheet_records.specs.declared.reader.Record.{Record}
 
 abbrev pub carriage_return : ℕ
 carriage_return = 13
@@ -30,30 +30,30 @@ abbrev pub in_line : ℕ → Flaw → Unreadable
 in_line number flaw = record { line = number; column = flaw.column; fault = flaw.fault }
 
 -- the record of a line that is not empty
-abbrev pub entry_on : ℕ → Result Entry Flaw → Result (Option Entry) Unreadable
+abbrev pub entry_on : ℕ → Result Record Flaw → Result (Option Record) Unreadable
 entry_on number (Ok entry) = Ok (Some entry)
 entry_on number (Err flaw) = Err (in_line number flaw)
 
 -- what the line of a number says after so many records: an empty line says nothing
-unfoldable pub entry_of : (number count : ℕ) → List ℕ → Result (Option Entry) Unreadable
+unfoldable pub entry_of : (number count : ℕ) → List ℕ → Result (Option Record) Unreadable
 entry_of number count line =
     pick (eqb (length line) 0) (Ok None)
     (pick (leb most_records count) (Err (record { line = number; column = 1; fault = TooManyRecords }))
     (entry_on number (entry_in (fields comma line))))
 
 -- a record before those of the lines after it; or the first fault
-abbrev pub with_entry : Entry → Result (List Entry) Unreadable → Result (List Entry) Unreadable
+abbrev pub with_entry : Record → Result (List Record) Unreadable → Result (List Record) Unreadable
 with_entry entry (Ok entries) = Ok (entry ∷ entries)
 with_entry entry (Err unreadable) = Err unreadable
 
 -- the records of a line and of those after it, which are `rest` past a line that says nothing and `more` past a record
-abbrev pub past_line : Result (Option Entry) Unreadable → (rest more : Result (List Entry) Unreadable) → Result (List Entry) Unreadable
+abbrev pub past_line : Result (Option Record) Unreadable → (rest more : Result (List Record) Unreadable) → Result (List Record) Unreadable
 past_line (Ok None) rest more = rest
 past_line (Ok (Some entry)) rest more = with_entry entry more
 past_line (Err unreadable) rest more = Err unreadable
 
 -- the records of lines from a number on, after so many records
-unfoldable pub entries_of : (number count : ℕ) → List (List ℕ) → Result (List Entry) Unreadable
+unfoldable pub entries_of : (number count : ℕ) → List (List ℕ) → Result (List Record) Unreadable
 entries_of number count [] = Ok []
 entries_of number count (line ∷ lines) =
     past_line (entry_of number count line) (entries_of (suc number) count lines) (entries_of (suc number) (suc count) lines)
@@ -71,7 +71,7 @@ abbrev pub later_lines : List ℕ → List (List ℕ)
 later_lines text = drop 1 (lines_of text)
 
 -- the bytes of a sheet of these sizes and records
-abbrev pub sheet_with : Result Sizes Unreadable → Result (List Entry) Unreadable → Result (List ℕ) Unreadable
+abbrev pub sheet_with : Result Sizes Unreadable → Result (List Record) Unreadable → Result (List ℕ) Unreadable
 sheet_with (Ok sizes) (Ok entries) = Ok (sheet_bytes sizes.interties sizes.holders (map (λ e. e.key) entries) (map (λ e. e.kw) entries))
 sheet_with (Ok sizes) (Err unreadable) = Err unreadable
 sheet_with (Err unreadable) later = Err unreadable

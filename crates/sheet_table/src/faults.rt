@@ -1,5 +1,9 @@
 // What is wrong with a table.
+ghost use Rattle.std.specs.Prelude.{◌≡◌};
+ghost use Rattle.sheet_table.specs.Fields.{fault_of};
+
 use std::fmt;
+use text::NumberError;
 
 // The faults of a field.
 #[derive(Clone, Copy, Debug, PartialEq, Eq)]
@@ -12,6 +16,17 @@ pub enum Fault {
     WrongFields,
     // Over 1,024 records.
     TooManyRecords,
+}
+
+impl From<NumberError> for Fault {
+    ghost from_gives = { λ error fault. fault ≡ fault_of error };
+
+    fn from(error: NumberError) -> Fault {
+        match error {
+            NumberError::Over => Fault::TooLarge,
+            NumberError::Bad => Fault::NotNumber,
+        }
+    }
 }
 
 // The first fault of a text, with its line and column, each counted from 1.

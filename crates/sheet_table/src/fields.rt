@@ -11,6 +11,7 @@ use crate::faults::Fault;
 use crate::kinds;
 use sheet_keys::key;
 use sheet_keys::key::Key;
+use sheet_records::reader::Record;
 use text::{NumberError, Pieces};
 
 // The fields of a record after its kind.
@@ -30,27 +31,15 @@ pub(crate) struct Sizes {
     pub holders: u32,
 }
 
-// A record.
-#[derive(Clone, Copy, Debug, PartialEq, Eq)]
-pub(crate) struct Entry {
-    pub key: u32,
-    pub kw: u32,
-}
-
 // A number that is at most so much.
 fn check_number(number: Result<u32, NumberError>, most: u32) -> Result<u32, Fault>
     ensures { result ≡ within most number }
 {
-    match number {
-        Ok(value) => {
-            if most < value {
-                Err(Fault::TooLarge)
-            } else {
-                Ok(value)
-            }
-        }
-        Err(NumberError::Over) => Err(Fault::TooLarge),
-        Err(NumberError::Bad) => Err(Fault::NotNumber),
+    let number = number?;
+    if most < number {
+        Err(Fault::TooLarge)
+    } else {
+        Ok(number)
     }
 }
 
@@ -64,7 +53,8 @@ fn kind_in(field: &[u8]) -> Result<u32, NumberError>
     }
 }
 
-// Reads the fields that are left, from a column on, and no field more.
+// Reads the fields that are left, from a column on, and no field more. (Matches, here and below, where `map_err` with `?` would
+// stand: what its closure gives is lost to the proof.)
 fn read_numbers(
     fields: &mut Pieces,
     column: usize,
@@ -123,7 +113,7 @@ pub(crate) fn read_sizes(line: &[u8]) -> Result<Sizes, Flaw>
 }
 
 // The line of a record.
-pub(crate) fn read_entry(line: &[u8]) -> Result<Entry, Flaw>
+pub(crate) fn read_entry(line: &[u8]) -> Result<Record, Flaw>
     ensures { result ≡ entry_in (fields comma line.now) }
 {
     let mut fields = text::split(line, b',');
@@ -135,7 +125,7 @@ pub(crate) fn read_entry(line: &[u8]) -> Result<Entry, Flaw>
 }
 
 // The record of a kind, with the fields after it.
-fn read_entry_of(kind: u32, fields: &mut Pieces) -> Result<Entry, Flaw>
+fn read_entry_of(kind: u32, fields: &mut Pieces) -> Result<Record, Flaw>
     requires { kind < key_kinds }
     ensures { result ≡ entry_of kind (pieces_left fields.old) }
 {
@@ -148,7 +138,7 @@ fn read_entry_of(kind: u32, fields: &mut Pieces) -> Result<Entry, Flaw>
     ];
     let mut values = [0u32; FIELDS];
     read_numbers(fields, 2, &mosts, &mut values)?;
-    Ok(Entry {
+    Ok(Record {
         key: pack(Key {
             kind,
             holder: values[0],

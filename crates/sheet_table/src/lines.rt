@@ -9,8 +9,9 @@ ghost use Rattle.sheet_table.specs.Workers.Steps.{read_into};
 
 use crate::faults::{Fault, Unreadable};
 use crate::fields;
-use crate::fields::{Entry, Flaw, Sizes};
+use crate::fields::{Flaw, Sizes};
 use base::limits::MOST_RECORDS;
+use sheet_records::reader::Record;
 use text::Pieces;
 
 // A line without one carriage return at its end.
@@ -46,7 +47,7 @@ pub(crate) fn read_first(line: &[u8]) -> Result<Sizes, Unreadable>
 }
 
 // Reads the line of a number after so many records. An empty line has no record.
-fn read_line(line: &[u8], number: usize, count: usize) -> Result<Option<Entry>, Unreadable>
+fn read_line(line: &[u8], number: usize, count: usize) -> Result<Option<Record>, Unreadable>
     ensures { result ≡ entry_of number count (bare line.now) }
 {
     let text = bare(line);

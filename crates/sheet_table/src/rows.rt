@@ -11,6 +11,8 @@ ghost use Rattle.sheet_table.specs.Table.{row_of, rows_of};
 
 use crate::{TABLE_BYTES, kinds};
 use arrayvec::ArrayVec;
+use base::kinds::Kind;
+use itoa::Buffer;
 use sheet_keys::key::Key;
 use sheet_records::reader;
 use text::put_line;
@@ -20,9 +22,9 @@ pub(crate) fn put_sizes(interties: u32, holders: u32, table: &mut ArrayVec<u8, T
     ensures { let line = line_of (decimal interties) comma (holders ∷ []) in
         table.new.items ≡ appended table_bytes line table.old.items }
 {
-    let mut digits = [0u8; 20];
-    let count = io::decimal(interties as u64, &mut digits);
-    put_line(&digits[..count], b',', &[holders as u64], table);
+    let mut digits = Buffer::new();
+    let label = digits.format(interties).as_bytes();
+    put_line(label, b',', &[u64::from(holders)], table);
 }
 
 // The line of a record.
@@ -31,20 +33,18 @@ fn put_row(key: u32, kw: u32, table: &mut ArrayVec<u8, TABLE_BYTES>)
 {
     let key = Key::from(key);
     let figures = [
-        key.holder as u64,
-        key.intertie as u64,
-        key.rank as u64,
-        key.years as u64,
-        kw as u64,
+        u64::from(key.holder),
+        u64::from(key.intertie),
+        u64::from(key.rank),
+        u64::from(key.years),
+        u64::from(kw),
     ];
-    let name = kinds::name_of(key.kind);
-    if !name.is_empty() {
-        put_line(name, b',', &figures, table);
+    if let Ok(kind) = Kind::try_from(key.kind) {
+        put_line(kinds::name(kind), b',', &figures, table);
         return;
     }
-    let mut digits = [0u8; 20];
-    let count = io::decimal(key.kind as u64, &mut digits);
-    put_line(&digits[..count], b',', &figures, table);
+    let mut digits = Buffer::new();
+    put_line(digits.format(key.kind).as_bytes(), b',', &figures, table);
 }
 
 // The lines of all records.

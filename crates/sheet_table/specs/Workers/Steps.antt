@@ -7,7 +7,7 @@ use Rattle.sheet_table.specs.declared.fields.Flaw.{Flaw}
 use Rattle.base.specs.Limits.{most_records}
 use Rattle.base.specs.Words.{at}
 use Rattle.text.specs.Written.{written}
-use Rattle.sheet_table.specs.declared.fields.Entry.{Entry}
+use Rattle.sheet_records.specs.declared.reader.Record.{Record}
 use Rattle.sheet_table.specs.declared.faults.Unreadable.{Unreadable}
 
 -- the fields of a record after its kind
@@ -29,18 +29,18 @@ abbrev pub Put : ℕ → List ℕ → ℕ → List ℕ → List ℕ → Type 0
 Put place text next l m = (next ≡ place + length text) × (m ≡ written place text l)
 
 -- the record of a kind, with the fields after it
-unfoldable pub entry_of : ℕ → List (List ℕ) → Result Entry Flaw
+unfoldable pub entry_of : ℕ → List (List ℕ) → Result Record Flaw
 entry_of kind fields =
     entry_as
     (with_number 1 (Ok kind)
     (numbers_in 2 ((key_holders - 1) ∷ (key_interties - 1) ∷ (key_ranks - 1) ∷ (key_years - 1) ∷ most_word ∷ []) fields))
 
 -- the first n records of two tables
-unfoldable pub entries_at : ℕ → List ℕ → List ℕ → List Entry
+unfoldable pub entries_at : ℕ → List ℕ → List ℕ → List Record
 entries_at zero keys kws = []
 entries_at (suc n) keys kws = entries_at n keys kws ++ (record { key = at keys n; kw = at kws n } ∷ [])
 
 -- records that were read into two tables
-abbrev pub read_into : List ℕ → List ℕ → Result ℕ Unreadable → Result (List Entry) Unreadable
+abbrev pub read_into : List ℕ → List ℕ → Result ℕ Unreadable → Result (List Record) Unreadable
 read_into keys kws (Ok n) = Ok (entries_at n keys kws)
 read_into keys kws (Err unreadable) = Err unreadable

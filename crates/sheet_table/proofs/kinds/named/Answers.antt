@@ -1,32 +1,15 @@
--- `named` meets its contract, name by name.
-use Rattle.sheet_table.specs.Kinds.{named}
-use Rattle.base.proofs.ChoiceLaws.{choices}
+-- `named` meets its contract: it finds the first kind of that name.
+use Rattle.base.proofs.Prelude.{[], ◌∷◌, ◌∙◌, rules}
+use Rattle.std.proofs.lemmas.Iterator.{YieldsList-from_slice}
+use Rattle.std.proofs.lemmas.Iterator.Search.{find_from_yields_List}
+use Rattle.base.specs.declared.kinds.Kind.TheVariants.{Limit, OutsideRight, LoadShare, ExistingContract, PreRaCommitment, NewUseCommitment}
+use Rattle.text.specs.Ascii.{same}
+use Rattle.sheet_table.specs.Kinds.{name, named}
 use Rattle.sheet_table.proofs.kinds.named.Goals as goal
 
-pub returns-then-is_name : goal.returns-then-is_name
+pub returns : goal.returns
 unfolding named
-returns-then-is_name c = search choices depth 8
-
-pub returns-then-is_name-2 : goal.returns-then-is_name-2
-unfolding named
-returns-then-is_name-2 c = search choices depth 8
-
-pub returns-then-is_name-3 : goal.returns-then-is_name-3
-unfolding named
-returns-then-is_name-3 c = search choices depth 8
-
-pub returns-then-is_name-4 : goal.returns-then-is_name-4
-unfolding named
-returns-then-is_name-4 c = search choices depth 8
-
-pub returns-then-is_name-5 : goal.returns-then-is_name-5
-unfolding named
-returns-then-is_name-5 c = search choices depth 8
-
-pub returns-then-is_name-6 : goal.returns-then-is_name-6
-unfolding named
-returns-then-is_name-6 c = search choices depth 8
-
-pub returns-else-is_name-6 : goal.returns-else-is_name-6
-unfolding named
-returns-else-is_name-6 c = search choices depth 8
+returns c =
+    let found = find_from_yields_List (λ kind. same c.args.field.now (name kind)) _ _ c.find.result c.find.ensures.ran
+    (YieldsList-from_slice (Limit ∷ OutsideRight ∷ LoadShare ∷ ExistingContract ∷ PreRaCommitment ∷ NewUseCommitment ∷ []) cc) (λ x b q k. search rules) in
+    c.copied.ensures ∙ found
