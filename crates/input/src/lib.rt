@@ -15,7 +15,8 @@ use std::fs;
 use std::io::Error;
 use std::rt::{Env, Files};
 
-// The system's numbers of errors: there is no such argument, a name is too long, a name isn't text.
+// The system's numbers of errors: there is no such argument, a name is too long, a name isn't text. (By number: it has the text
+// that is printed.)
 const INVALID: i32 = 22;
 
 const TOO_LONG: i32 = 36;
@@ -55,7 +56,8 @@ pub fn read_file<F: Files>(files: &F, name: &[u8], buffer: &mut [u8]) -> Result<
     read_opened(open(files, name), buffer)
 }
 
-// Reads a file that was opened, if it was.
+// Reads a file that was opened, if it was. (Apart from `read_file`, and a match in place of `map_err` with `?`: so a clause can say
+// that what wasn't opened is an error, after no byte.)
 fn read_opened<R: std::io::Read + Drop>(
     file: Result<R, Error>,
     buffer: &mut [u8],
@@ -103,7 +105,8 @@ pub fn say(stderr: &impl Print, text: &[u8]) {
     let _ = stderr.write_all(text);
 }
 
-// Says a line on standard error: what failed, as the caller names it, and why, as `name: No such file or directory`.
+// Says a line on standard error: what failed, as the caller names it, and why, as `name: No such file or directory`. (In pieces: a
+// name is bytes that may be no text, which `println!` can't say.)
 pub fn fail(stderr: &impl Print, what: &[u8], error: Error) {
     let reason = Reason::of(error);
     say(stderr, what);

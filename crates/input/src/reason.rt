@@ -37,6 +37,7 @@ impl Reason {
     }
 }
 
+// (Byte by byte: a text without room is cut, and not left out.)
 impl Write for Reason {
     fn write_str(&mut self, s: &str) -> fmt::Result {
         for b in s.as_bytes() {

@@ -46,9 +46,8 @@ fn convert_input(stdin: &mut impl Read, stdout: &impl Print, stderr: &impl Print
 
 // Writes the sheet that a text says, or says its fault.
 fn write_sheet(stdout: &impl Print, stderr: &impl Print, text: &[u8]) {
-    let mut sheet = [0u8; MOST_SHEET_BYTES];
-    match sheet_table::to_sheet(text, &mut sheet) {
-        Ok(count) => write_out(stdout, stderr, &sheet[..count]),
+    match sheet_table::to_sheet(text) {
+        Ok(sheet) => write_out(stdout, stderr, sheet.as_slice()),
         Err(unreadable) => {
             let _ = println!(stderr; "{unreadable}");
         }
@@ -71,7 +70,7 @@ fn print_argument<R: Env + Files + Print>(rt: &R, stderr: &impl Print) {
     }
 }
 
-// Prints the sheet of a file.
+// Prints the sheet of a file. (A name is said apart from the text after it, here and below: it is bytes that may be no text.)
 fn print_file<R: Files + Print>(rt: &R, stderr: &impl Print, name: &[u8]) {
     let mut sheet = [0u8; SHEET_ROOM];
     match input::read_file(rt, name, &mut sheet) {

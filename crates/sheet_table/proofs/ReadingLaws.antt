@@ -1,25 +1,24 @@
 -- A text read line by line.
-use Prim.Native.Nat.{ℕ, zero, suc, ◌+◌, ◌≤◌, ◌<◌}
+use Prim.Native.Nat.{ℕ, suc, ◌+◌, ◌≤◌, ◌<◌}
 use mathlib.Core.Path.{◌≡◌, refl, sym, ap, ◌∙◌}
 use mathlib.Core.Logic.{◌≢◌}
 use mathlib.Core.List.{List, [], ◌∷◌, ◌++◌, map, append_assoc, append-nil}
-use native.Mathlib.Numerals.{add-one}
 use native.Mathlib.Omega.{arith}
 use lib.Dec.{leb, eqb}
-use lib.ListN.{length, take, set}
-use lib.Seq.{take-suc, get_or-set_same, get_or-set_other}
+use lib.ListN.{length, length-append}
 use borrow.Author.Tests.{eq-eqb, ne_eqb, le-leb, lt-leb, leb-false}
-use Rattle.std.specs.Prelude.{Option, Some, None, Result, Ok, Err}
-use Rattle.base.specs.Words.{at}
+use Rattle.std.specs.Prelude.{Option, Some, None, Result, Ok, Err, IfOk}
+use Rattle.std.specs.Result.{IsErrAnd}
 use Rattle.text.specs.Pieces.{fields}
 use Rattle.text.proofs.PieceLaws.{by-test}
 use Rattle.sheet_table.specs.Fields.{comma, entry_in}
 use Rattle.sheet_table.specs.Lines.{bare, entry_on, entry_of, with_entry, past_line, entries_of}
-use Rattle.sheet_table.specs.Workers.Steps.{entries_at}
+use Rattle.sheet_table.specs.Workers.Steps.{records, records_read}
 use Rattle.sheet_table.specs.declared.faults.Fault.TheVariants.{TooManyRecords}
 use Rattle.sheet_table.specs.declared.faults.Unreadable.{Unreadable}
 use Rattle.sheet_records.specs.declared.reader.Record.{Record}
 use Rattle.sheet_table.specs.declared.fields.Flaw.{Flaw}
+use Rattle.sheet_table.specs.declared.lines.Records.{Records}
 
 -- what a line says, by cases
 module _ (number count : ℕ) (line : List ℕ) where
@@ -75,85 +74,87 @@ pub entries-end : (number count : ℕ) → entries_of number count [] ≡ Ok []
 unfolding entries_of
 entries-end number count = refl
 
--- the records of two tables
-pub entries_none : (keys kws : List ℕ) → entries_at 0 keys kws ≡ []
-unfolding entries_at
-entries_none keys kws = refl
+-- the records of two lists
+records_next : (entry : Record) (keys kws : List ℕ) → length kws ≡ length keys → records (keys ++ (entry.key ∷ [])) (kws ++ (entry.kw ∷ [])) ≡ records keys kws ++ (entry ∷ [])
+unfolding records
+records_next entry [] [] e = refl
+records_next entry [] (q ∷ kws) e = absurd (omega arith)
+records_next entry (k ∷ keys) [] e = absurd (omega arith)
+records_next entry (k ∷ keys) (q ∷ kws) e = ap (λ (l : List Record). record { key = k; kw = q } ∷ l) (records_next entry keys kws (omega arith))
 
-entries-kept : (n m x y : ℕ) (keys kws : List ℕ) → n ≤ m → entries_at n (set keys m x) (set kws m y) ≡ entries_at n keys kws
-unfolding entries_at
-entries-kept zero m x y keys kws low = refl
-entries-kept (suc n) m x y keys kws low =
-    let other : n ≢ m = λ e. absurd (omega arith) in
-    rw (get_or-set_other keys m n x 0 other, get_or-set_other kws m n y 0 other, entries-kept n m x y keys kws (omega arith)) refl
+records_none : records [] [] ≡ []
+unfolding records
+records_none = refl
 
-pub entries-next : (n : ℕ) (entry : Record) (keys kws : List ℕ) → n < length keys → n < length kws →
-    entries_at (n + 1) (set keys n entry.key) (set kws n entry.kw) ≡ entries_at n keys kws ++ (entry ∷ [])
-unfolding entries_at
-entries-next n entry keys kws k q =
-    ap (λ m. entries_at m (set keys n entry.key) (set kws n entry.kw)) (add-one n)
-    ∙ rw (get_or-set_same keys n entry.key 0 k, get_or-set_same kws n entry.kw 0 q, entries-kept n n entry.key entry.kw keys kws (omega arith)) refl
+pub keys-of : (keys kws : List ℕ) → length kws ≡ length keys → map (λ e. e.key) (records keys kws) ≡ keys
+unfolding records
+keys-of [] kws e = refl
+keys-of (k ∷ keys) [] e = absurd (omega arith)
+keys-of (k ∷ keys) (q ∷ kws) e = ap (λ (l : List ℕ). k ∷ l) (keys-of keys kws (omega arith))
+
+pub kws-of : (keys kws : List ℕ) → length kws ≡ length keys → map (λ e. e.kw) (records keys kws) ≡ kws
+unfolding records
+kws-of [] [] e = refl
+kws-of [] (q ∷ kws) e = absurd (omega arith)
+kws-of (k ∷ keys) [] e = absurd (omega arith)
+kws-of (k ∷ keys) (q ∷ kws) e = ap (λ (l : List ℕ). q ∷ l) (kws-of keys kws (omega arith))
 
 pub map-append : {A B : Type 0} (f : A → B) (a b : List A) → map f (a ++ b) ≡ map f a ++ map f b
 map-append f [] b = refl
 map-append f (x ∷ a) b = ap (λ l. f x ∷ l) (map-append f a b)
 
-pub keys-of : (n : ℕ) (keys kws : List ℕ) → n ≤ length keys → map (λ e. e.key) (entries_at n keys kws) ≡ take n keys
-unfolding entries_at
-keys-of zero keys kws low = refl
-keys-of (suc n) keys kws low =
-    map-append (λ e. e.key) (entries_at n keys kws) _ ∙ ap (λ l. l ++ (at keys n ∷ [])) (keys-of n keys kws (omega arith)) ∙ sym (take-suc keys n 0 (omega arith))
-
-pub kws-of : (n : ℕ) (keys kws : List ℕ) → n ≤ length kws → map (λ e. e.kw) (entries_at n keys kws) ≡ take n kws
-unfolding entries_at
-kws-of zero keys kws low = refl
-kws-of (suc n) keys kws low =
-    map-append (λ e. e.kw) (entries_at n keys kws) _ ∙ ap (λ l. l ++ (at kws n ∷ [])) (kws-of n keys kws (omega arith)) ∙ sym (take-suc kws n 0 (omega arith))
-
 -- the loop that reads lines: what is left of them decides
-pub lines_begin : (keys kws : List ℕ) (lines : List (List ℕ)) (place : ℕ) → place ≡ 0 → entries_of 2 0 lines ≡ before (entries_at 0 keys kws) (entries_of (place + 2) 0 lines)
-lines_begin keys kws lines place none =
-    before-none (entries_of 2 0 lines)
-    ∙ ap (λ l. before l (entries_of 2 0 lines)) (sym (entries_none keys kws))
-    ∙ ap (λ n. before (entries_at 0 keys kws) (entries_of (n + 2) 0 lines)) (sym none)
+pub lines_begin : (lines left : List (List ℕ)) (place : ℕ) → place ≡ 0 → left ≡ lines → entries_of 2 0 (map bare lines) ≡ before (records [] []) (entries_of (place + 2) 0 (map bare left))
+lines_begin lines left place none same =
+    before-none (entries_of 2 0 (map bare lines))
+    ∙ ap (λ l. before l (entries_of 2 0 (map bare lines))) (sym records_none)
+    ∙ ap (λ n. before (records [] []) (entries_of (n + 2) 0 (map bare lines))) (sym none)
+    ∙ ap (λ l. before (records [] []) (entries_of (place + 2) 0 (map bare l))) (sym same)
 
 module _ (place count : ℕ) (keys kws : List ℕ) (left : List (List ℕ)) (whole : Result (List Record) Unreadable)
-    (so_far : whole ≡ before (entries_at count keys kws) (entries_of (place + 2) count (map bare left))) where
+    (so_far : whole ≡ before (records keys kws) (entries_of (place + 2) count (map bare left))) where
   module _ (line : List ℕ) (others : List (List ℕ)) (are : left ≡ line ∷ others) (said : Result (Option Record) Unreadable) (is : said ≡ entry_of (place + 2) count (bare line)) where
-    here : whole ≡ before (entries_at count keys kws) (past_line said (entries_of (suc (place + 2)) count (map bare others)) (entries_of (suc (place + 2)) (suc count) (map bare others)))
+    here : whole ≡ before (records keys kws) (past_line said (entries_of (suc (place + 2)) count (map bare others)) (entries_of (suc (place + 2)) (suc count) (map bare others)))
     here =
         so_far
-        ∙ ap (λ l. before (entries_at count keys kws) (entries_of (place + 2) count (map bare l))) are
-        ∙ ap (before (entries_at count keys kws)) (entries-cons (place + 2) count (bare line) (map bare others))
-        ∙ ap (λ o. before (entries_at count keys kws) (past_line o (entries_of (suc (place + 2)) count (map bare others)) (entries_of (suc (place + 2)) (suc count) (map bare others)))) (sym is)
+        ∙ ap (λ l. before (records keys kws) (entries_of (place + 2) count (map bare l))) are
+        ∙ ap (before (records keys kws)) (entries-cons (place + 2) count (bare line) (map bare others))
+        ∙ ap (λ o. before (records keys kws) (past_line o (entries_of (suc (place + 2)) count (map bare others)) (entries_of (suc (place + 2)) (suc count) (map bare others)))) (sym is)
 
     next : suc (place + 2) ≡ place + 1 + 2
     next = omega arith
 
     pub lines-stop : (unreadable : Unreadable) → said ≡ Err unreadable → Err unreadable ≡ whole
     lines-stop unreadable e =
-        sym (here ∙ ap (λ o. before (entries_at count keys kws) (past_line o (entries_of (suc (place + 2)) count (map bare others)) (entries_of (suc (place + 2)) (suc count) (map bare others)))) e)
+        sym (here ∙ ap (λ o. before (records keys kws) (past_line o (entries_of (suc (place + 2)) count (map bare others)) (entries_of (suc (place + 2)) (suc count) (map bare others)))) e)
 
-    pub lines-skip : said ≡ Ok None → whole ≡ before (entries_at count keys kws) (entries_of (place + 1 + 2) count (map bare others))
+    pub lines-skip : said ≡ Ok None → whole ≡ before (records keys kws) (entries_of (place + 1 + 2) count (map bare others))
     lines-skip e =
         here
-        ∙ ap (λ o. before (entries_at count keys kws) (past_line o (entries_of (suc (place + 2)) count (map bare others)) (entries_of (suc (place + 2)) (suc count) (map bare others)))) e
-        ∙ ap (λ n. before (entries_at count keys kws) (entries_of n count (map bare others))) next
+        ∙ ap (λ o. before (records keys kws) (past_line o (entries_of (suc (place + 2)) count (map bare others)) (entries_of (suc (place + 2)) (suc count) (map bare others)))) e
+        ∙ ap (λ n. before (records keys kws) (entries_of n count (map bare others))) next
 
-    pub lines-take : (entry : Record) → said ≡ Ok (Some entry) → count < length keys → count < length kws →
-        whole ≡ before (entries_at (count + 1) (set keys count entry.key) (set kws count entry.kw)) (entries_of (place + 1 + 2) (count + 1) (map bare others))
-    lines-take entry e k q =
+    pub lines-take : (entry : Record) → said ≡ Ok (Some entry) → count ≡ length keys → length kws ≡ length keys → (ks qs : List ℕ) → ks ≡ keys ++ (entry.key ∷ []) → qs ≡ kws ++ (entry.kw ∷ []) →
+        whole ≡ before (records ks qs) (entries_of (place + 1 + 2) (length ks) (map bare others))
+    lines-take entry e size even ks qs k q =
+        let more : suc count ≡ length ks = omega (arith, ap length k, length-append keys (entry.key ∷ [])) in
         here
-        ∙ ap (λ o. before (entries_at count keys kws) (past_line o (entries_of (suc (place + 2)) count (map bare others)) (entries_of (suc (place + 2)) (suc count) (map bare others)))) e
-        ∙ before-entry (entries_at count keys kws) entry (entries_of (suc (place + 2)) (suc count) (map bare others))
-        ∙ ap (λ l. before l (entries_of (suc (place + 2)) (suc count) (map bare others))) (sym (entries-next count entry keys kws k q))
-        ∙ ap (λ n. before (entries_at (count + 1) (set keys count entry.key) (set kws count entry.kw)) (entries_of n (suc count) (map bare others))) next
-        ∙ ap (λ n. before (entries_at (count + 1) (set keys count entry.key) (set kws count entry.kw)) (entries_of (place + 1 + 2) n (map bare others))) (sym (add-one count))
+        ∙ ap (λ o. before (records keys kws) (past_line o (entries_of (suc (place + 2)) count (map bare others)) (entries_of (suc (place + 2)) (suc count) (map bare others)))) e
+        ∙ before-entry (records keys kws) entry (entries_of (suc (place + 2)) (suc count) (map bare others))
+        ∙ ap (λ l. before l (entries_of (suc (place + 2)) (suc count) (map bare others))) (sym (records_next entry keys kws even) ∙ ap (λ l. records l (kws ++ (entry.kw ∷ []))) (sym k) ∙ ap (records ks) (sym q))
+        ∙ ap (λ n. before (records ks qs) (entries_of n (suc count) (map bare others))) next
+        ∙ ap (λ n. before (records ks qs) (entries_of (place + 1 + 2) n (map bare others))) more
 
-  pub lines-end : left ≡ [] → Ok (entries_at count keys kws) ≡ whole
+  pub lines-end : left ≡ [] → Ok (records keys kws) ≡ whole
   lines-end none =
       sym
       (so_far
-      ∙ ap (λ l. before (entries_at count keys kws) (entries_of (place + 2) count (map bare l))) none
-      ∙ ap (before (entries_at count keys kws)) (entries-end (place + 2) count)
-      ∙ ap Ok (append-nil (entries_at count keys kws)))
+      ∙ ap (λ l. before (records keys kws) (entries_of (place + 2) count (map bare l))) none
+      ∙ ap (before (records keys kws)) (entries-end (place + 2) count)
+      ∙ ap Ok (append-nil (records keys kws)))
+
+-- a fault that `?` hands on
+pub lines-stopped : (r : Result Records Unreadable) (unreadable : Unreadable) (whole : Result (List Record) Unreadable) → IsErrAnd r (λ x. x ≡ unreadable) → Err unreadable ≡ whole →
+    (records_read r ≡ whole) × IfOk r (λ read. length read.kws.items ≡ length read.keys.items)
+lines-stopped (Ok x) unreadable whole same done = absurd same
+lines-stopped (Err x) unreadable whole same done = (ap Err same ∙ done, tt)

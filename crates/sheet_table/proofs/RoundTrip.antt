@@ -8,7 +8,6 @@ use native.Mathlib.Omega.{arith}
 use lib.ListN.{length, length-append, take, drop, get_or, length-drop, take-append-drop}
 use lib.Seq.{take-add, take_all, drop-drop, drop-cons}
 use Rattle.base.specs.Words.{at}
-use Rattle.text.specs.Written.{written}
 use Rattle.text.specs.Pieces.{fields}
 use Rattle.text.specs.Decimal.{decimal}
 use Rattle.text.specs.Lines.{line_end}
@@ -20,7 +19,7 @@ use Rattle.sheet_records.proofs.ReadingLaws.{word_below}
 use Rattle.sheet_records.specs.Bytes.{word_bytes, bytes_of, sheet_bytes}
 use Rattle.std.specs.Prelude.{Result, Ok}
 use Rattle.sheet_table.specs.Fields.{comma, sizes_in}
-use Rattle.sheet_table.specs.Lines.{bare, lines_of, entries_of, past_line, sizes_on, first_fields, later_lines, sheet_with, sheet_of, length_of, converted, written_by, converted_into}
+use Rattle.sheet_table.specs.Lines.{bare, lines_of, entries_of, past_line, sizes_on, first_fields, later_lines, sheet_with, sheet_of}
 use Rattle.sheet_table.specs.Table.{label_of, row_of, rows_of, sizes_line, table_of}
 use Rattle.sheet_records.specs.declared.reader.Record.{Record}
 use Rattle.sheet_table.specs.declared.faults.Unreadable.{Unreadable}
@@ -208,9 +207,10 @@ module _ (s : List ℕ) (bytes : (i : ℕ) → at s i < 256) where
         ∙ ap (λ (l : List ℕ). take 12 s ++ l) (take-append-drop (4 * K) (drop 12 s))
         ∙ take-append-drop 12 s
 
-    sheet-back : sheet_of (table_of s) ≡ Ok s
+    -- reading the text of a sheet gives the very bytes of the sheet
+    pub to-sheet-of-table : sheet_of (table_of s) ≡ Ok s
     unfolding sheet_of
-    sheet-back =
+    to-sheet-of-table =
         let lines : Result (List Record) Unreadable = entries_of 2 0 (later_lines (table_of s)) in
         ap (λ f. sheet_with (sizes_on (sizes_in f)) lines) first-fields
         ∙ ap (λ z. sheet_with (sizes_on z) lines) (Row.sizes-back (interties s) (holders s) (small 0) (small 4))
@@ -218,8 +218,3 @@ module _ (s : List ℕ) (bytes : (i : ℕ) → at s i < 256) where
         ∙ ap (λ k. Ok (sheet_bytes (interties s) (holders s) k (map (λ e. e.kw) (recs (count s))))) (keys-said (count s))
         ∙ ap (λ q. Ok (sheet_bytes (interties s) (holders s) (words 12 (count s)) q)) (kws-said (count s))
         ∙ ap Ok all-bytes
-
-    -- reading the text of a sheet gives the very bytes of the sheet
-    pub to-sheet-of-table : (memory : List ℕ) → (converted (table_of s) ≡ Ok (length s)) × (converted_into (table_of s) memory ≡ written 0 s memory)
-    unfolding converted converted_into
-    to-sheet-of-table memory = (ap length_of sheet-back, ap (λ r. written_by r memory) sheet-back)

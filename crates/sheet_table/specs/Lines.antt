@@ -2,7 +2,6 @@
 use Rattle.std.specs.Prelude.{ℕ, suc, ◌-◌, List, [], ◌∷◌, map, eqb, leb, length, take, drop, get_or, Option, Some, None, Result, Ok, Err}
 use Rattle.base.specs.Choice.{pick}
 use Rattle.base.specs.Words.{at}
-use Rattle.text.specs.Written.{written}
 use Rattle.text.specs.Pieces.{fields}
 use Rattle.text.specs.Lines.{line_end}
 use Rattle.base.specs.Limits.{most_records}
@@ -79,19 +78,3 @@ sheet_with (Err unreadable) later = Err unreadable
 -- the sheet that a text says: its first line, then the others
 unfoldable pub sheet_of : List ℕ → Result (List ℕ) Unreadable
 sheet_of text = sheet_with (sizes_on (sizes_in (first_fields text))) (entries_of 2 0 (later_lines text))
-
--- what converting a text answers: how many bytes the sheet has
-abbrev pub length_of : Result (List ℕ) Unreadable → Result ℕ Unreadable
-length_of (Ok sheet) = Ok (length sheet)
-length_of (Err unreadable) = Err unreadable
-
-unfoldable pub converted : List ℕ → Result ℕ Unreadable
-converted text = length_of (sheet_of text)
-
--- and what stands in memory then
-abbrev pub written_by : Result (List ℕ) Unreadable → List ℕ → List ℕ
-written_by (Ok sheet) memory = written 0 sheet memory
-written_by (Err unreadable) memory = memory
-
-unfoldable pub converted_into : List ℕ → List ℕ → List ℕ
-converted_into text memory = written_by (sheet_of text) memory

@@ -1,6 +1,5 @@
 // The fields of a line, read as numbers.
-ghost use Rattle.std.specs.Prelude.{◌≡◌, ◌≤◌, ◌<◌, length};
-ghost use Rattle.std.specs.Result.{result_map_both};
+ghost use Rattle.std.specs.Prelude.{◌≡◌, ◌≤◌, ◌<◌};
 ghost use Rattle.text.specs.Pieces.{fields};
 ghost use Rattle.text.specs.Left.{pieces_left};
 ghost use Rattle.sheet_keys.specs.Key.{key_kinds, key_holders, key_interties, key_ranks, key_years, key_from};
@@ -13,9 +12,6 @@ use sheet_keys::key;
 use sheet_keys::key::Key;
 use sheet_records::reader::Record;
 use text::{NumberError, Pieces};
-
-// The fields of a record after its kind.
-const FIELDS: usize = 5;
 
 // The first fault of a line, and its column.
 #[derive(Clone, Copy, Debug, PartialEq, Eq)]
@@ -55,15 +51,16 @@ fn kind_in(field: &[u8]) -> Result<u32, NumberError>
 
 // Reads the fields that are left, from a column on, and no field more. (Matches, here and below, where `map_err` with `?` would
 // stand: what its closure gives is lost to the proof.)
-fn read_numbers(
+fn read_numbers<const N: usize>(
     fields: &mut Pieces,
     column: usize,
-    mosts: &[u32],
-    values: &mut [u32],
-) -> Result<(), Flaw>
-    requires { (column ≤ 2) × (length mosts.now ≤ fields_past_kind) × (length values.old ≡ length mosts.now) }
-    ensures { result_map_both (λ _. values.new) (λ flaw. flaw) result ≡ numbers_in column mosts.now (pieces_left fields.old) }
+    limits: &[u32; N],
+) -> Result<[u32; N], Flaw>
+    requires { (column ≤ 2) × (N ≤ fields_past_kind) }
+    ensures { result ≡ numbers_in column limits.now (pieces_left fields.old) }
 {
+    let mosts: &[u32] = limits;
+    let mut numbers = [0u32; N];
     for (i, most) in mosts.iter().enumerate() {
         let Some(field) = fields.next() else {
             return Err(Flaw {
@@ -72,7 +69,7 @@ fn read_numbers(
             });
         };
         match check_number(text::read_number(field), *most) {
-            Ok(value) => values[i] = value,
+            Ok(number) => numbers[i] = number,
             Err(fault) => {
                 return Err(Flaw {
                     column: column + i,
@@ -83,10 +80,10 @@ fn read_numbers(
     }
     match fields.next() {
         Some(_) => Err(Flaw {
-            column: column + mosts.len(),
+            column: column + N,
             fault: Fault::WrongFields,
         }),
-        None => Ok(()),
+        None => Ok(numbers),
     }
 }
 
@@ -104,8 +101,7 @@ pub(crate) fn read_sizes(line: &[u8]) -> Result<Sizes, Flaw>
     ensures { result ≡ sizes_in (fields comma line.now) }
 {
     let mut fields = text::split(line, b',');
-    let mut sizes = [0u32; 2];
-    read_numbers(&mut fields, 1, &[u32::MAX, u32::MAX], &mut sizes)?;
+    let sizes = read_numbers(&mut fields, 1, &[u32::MAX, u32::MAX])?;
     Ok(Sizes {
         interties: sizes[0],
         holders: sizes[1],
@@ -136,8 +132,7 @@ fn read_entry_of(kind: u32, fields: &mut Pieces) -> Result<Record, Flaw>
         key::YEARS_MASK,
         u32::MAX,
     ];
-    let mut values = [0u32; FIELDS];
-    read_numbers(fields, 2, &mosts, &mut values)?;
+    let values = read_numbers(fields, 2, &mosts)?;
     Ok(Record {
         key: pack(Key {
             kind,

@@ -8,12 +8,12 @@ mod kinds;
 mod lines;
 mod rows;
 
-ghost use Rattle.std.specs.Prelude.{◌≡◌, IfOk, Some, None};
+ghost use Rattle.std.specs.Prelude.{◌≡◌, Some, None};
 ghost use Rattle.std.specs.Option.{option_map};
-ghost use Rattle.io.specs.Counts.{IsPrefixLen};
+ghost use Rattle.std.specs.Result.{result_map_both};
 ghost use Rattle.base.specs.Choice.{pick};
 ghost use Rattle.sheet_records.specs.Refusal.{bad_length};
-ghost use Rattle.sheet_table.specs.Lines.{converted, converted_into};
+ghost use Rattle.sheet_table.specs.Lines.{sheet_of};
 ghost use Rattle.sheet_table.specs.Table.{table_of};
 
 use arrayvec::ArrayVec;
@@ -29,28 +29,27 @@ const ROW_BYTES: usize = 34;
 
 pub const TABLE_BYTES: usize = SIZES_BYTES + ROW_BYTES * MOST_RECORDS;
 
-// Writes the sheet that a text says at the start of `sheet` and answers how many bytes it has; on a fault nothing. The
-// rules of the sheet are not judged.
-pub fn to_sheet(text: &[u8], sheet: &mut [u8; MOST_SHEET_BYTES]) -> Result<usize, Unreadable>
-    ensures { let t = text.now in
-        (result ≡ converted t) × (sheet.new ≡ converted_into t sheet.old)
-        × IfOk result (λ count. IsPrefixLen count sheet.new) }
+// The bytes of the sheet that a text says. The rules of the sheet are not judged.
+pub fn to_sheet(text: &[u8]) -> Result<ArrayVec<u8, MOST_SHEET_BYTES>, Unreadable>
+    ensures { result_map_both (λ sheet. sheet.items) (λ unreadable. unreadable) result ≡ sheet_of text.now }
 {
     let mut lines = text::split(text, b'\n');
     let first = lines.next().unwrap_or(&[]);
     let sizes = lines::read_first(first)?;
-    let mut keys = [0u32; MOST_RECORDS];
-    let mut kws = [0u32; MOST_RECORDS];
-    let records = lines::read_lines(lines, &mut keys, &mut kws)?;
+    let records = lines::read_lines(lines)?;
+    let mut bytes = [0u8; MOST_SHEET_BYTES];
+    // (Never none: there are at most 1,024 records, and room for them.)
     let count = writing::write_sheet(
         sizes.interties,
         sizes.holders,
-        &keys[..records],
-        &kws[..records],
-        sheet,
+        records.keys.as_slice(),
+        records.kws.as_slice(),
+        &mut bytes,
     )
     .unwrap_or(0);
-    Ok(count)
+    let mut sheet = ArrayVec::from(bytes);
+    sheet.truncate(count);
+    Ok(sheet)
 }
 
 // The text of a sheet; none for bytes that refusal 1 refuses.

@@ -1,15 +1,15 @@
 // The lines of a text: the sizes, then a record a line.
-ghost use Rattle.std.specs.Prelude.{◌≡◌, ◌+◌, ◌≤◌, ◌^◌, length, map, IfOk};
-ghost use Rattle.base.specs.Limits.{most_records};
+ghost use Rattle.std.specs.Prelude.{◌≡◌, ◌≤◌, ◌^◌, length, map, IfOk};
 ghost use Rattle.text.specs.Pieces.{fields};
 ghost use Rattle.text.specs.Left.{pieces_left};
 ghost use Rattle.sheet_table.specs.Fields.{comma, sizes_in};
 ghost use Rattle.sheet_table.specs.Lines.{bare, in_line, sizes_on, entry_of, entries_of};
-ghost use Rattle.sheet_table.specs.Workers.Steps.{read_into};
+ghost use Rattle.sheet_table.specs.Workers.Steps.{records_read};
 
 use crate::faults::{Fault, Unreadable};
 use crate::fields;
 use crate::fields::{Flaw, Sizes};
+use arrayvec::ArrayVec;
 use base::limits::MOST_RECORDS;
 use sheet_records::reader::Record;
 use text::Pieces;
@@ -36,7 +36,8 @@ fn in_line(line: usize, flaw: Flaw) -> Unreadable
     }
 }
 
-// Reads the first line.
+// Reads the first line. (A match here and in `read_line`, as in journal's `check`: what the closure of `map_err` gives is lost to
+// the proof.)
 pub(crate) fn read_first(line: &[u8]) -> Result<Sizes, Unreadable>
     ensures { result ≡ sizes_on (sizes_in (fields comma (bare line.now))) }
 {
@@ -67,28 +68,26 @@ fn read_line(line: &[u8], number: usize, count: usize) -> Result<Option<Record>,
     }
 }
 
-// Reads the lines past the first into two tables, up to the first fault, and answers how many records there are. The tables
-// are two, as `write_sheet` takes them: one of records would have to be split again.
-pub(crate) fn read_lines(
-    lines: Pieces,
-    keys: &mut [u32; MOST_RECORDS],
-    kws: &mut [u32; MOST_RECORDS],
-) -> Result<usize, Unreadable>
+// Records, as `write_sheet` takes them: a list of records would have to be split again.
+#[derive(Drop)]
+pub(crate) struct Records {
+    pub keys: ArrayVec<u32, MOST_RECORDS>,
+    pub kws: ArrayVec<u32, MOST_RECORDS>,
+}
+
+// Reads the lines past the first, up to the first fault.
+pub(crate) fn read_lines(lines: Pieces) -> Result<Records, Unreadable>
     requires { length (pieces_left lines) ≤ 2 ^ 63 }
-    ensures { (read_into keys.new kws.new result ≡ entries_of 2 0 (map bare (pieces_left lines.entry)))
-        × IfOk result (λ count. count ≤ most_records) }
+    ensures { (records_read result ≡ entries_of 2 0 (map bare (pieces_left lines.entry)))
+        × IfOk result (λ read. length read.kws.items ≡ length read.keys.items) }
 {
-    let mut count = 0;
+    let mut keys = ArrayVec::new();
+    let mut kws = ArrayVec::new();
     for (place, line) in lines.enumerate() {
-        match read_line(line, place + 2, count) {
-            Ok(Some(entry)) => {
-                keys[count] = entry.key;
-                kws[count] = entry.kw;
-                count += 1;
-            }
-            Ok(None) => {}
-            Err(unreadable) => return Err(unreadable),
+        if let Some(record) = read_line(line, place + 2, keys.len())? {
+            keys.push(record.key);
+            kws.push(record.kw);
         }
     }
-    Ok(count)
+    Ok(Records { keys, kws })
 }

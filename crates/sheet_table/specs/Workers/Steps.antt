@@ -1,14 +1,14 @@
 -- What reading and writing a line leave, step by step.
-use Rattle.std.specs.Prelude.{ℕ, zero, suc, ◌+◌, ◌-◌, ◌*◌, ◌≡◌, List, [], ◌∷◌, ◌++◌, length, Result, Ok, Err}
+use Rattle.std.specs.Prelude.{ℕ, ◌+◌, ◌-◌, ◌*◌, ◌≡◌, List, [], ◌∷◌, length, Result, Ok, Err}
 use Rattle.sheet_keys.specs.Key.{key_holders, key_interties, key_ranks, key_years}
 use Rattle.sheet_records.specs.Sheet.{most_word}
 use Rattle.sheet_table.specs.Fields.{with_number, numbers_in, entry_as}
 use Rattle.sheet_table.specs.declared.fields.Flaw.{Flaw}
 use Rattle.base.specs.Limits.{most_records}
-use Rattle.base.specs.Words.{at}
 use Rattle.text.specs.Written.{written}
 use Rattle.sheet_records.specs.declared.reader.Record.{Record}
 use Rattle.sheet_table.specs.declared.faults.Unreadable.{Unreadable}
+use Rattle.sheet_table.specs.declared.lines.Records.{Records}
 
 -- the fields of a record after its kind
 abbrev pub fields_past_kind : ℕ
@@ -35,12 +35,13 @@ entry_of kind fields =
     (with_number 1 (Ok kind)
     (numbers_in 2 ((key_holders - 1) ∷ (key_interties - 1) ∷ (key_ranks - 1) ∷ (key_years - 1) ∷ most_word ∷ []) fields))
 
--- the first n records of two tables
-unfoldable pub entries_at : ℕ → List ℕ → List ℕ → List Record
-entries_at zero keys kws = []
-entries_at (suc n) keys kws = entries_at n keys kws ++ (record { key = at keys n; kw = at kws n } ∷ [])
+-- the records of a list of keys and one of quantities
+unfoldable pub records : List ℕ → List ℕ → List Record
+records [] kws = []
+records (key ∷ keys) [] = []
+records (key ∷ keys) (kw ∷ kws) = record { key = key; kw = kw } ∷ records keys kws
 
--- records that were read into two tables
-abbrev pub read_into : List ℕ → List ℕ → Result ℕ Unreadable → Result (List Record) Unreadable
-read_into keys kws (Ok n) = Ok (entries_at n keys kws)
-read_into keys kws (Err unreadable) = Err unreadable
+-- records that were read
+abbrev pub records_read : Result Records Unreadable → Result (List Record) Unreadable
+records_read (Ok read) = Ok (records read.keys.items read.kws.items)
+records_read (Err unreadable) = Err unreadable

@@ -1,32 +1,39 @@
-use Rattle.base.proofs.Prelude.{◌≡◌, sym, ◌∙◌, length, rules}
+use Rattle.base.proofs.Prelude.{◌≡◌, ◌+◌, sym, ap, ◌∙◌, length, rules, arith, ℕ}
+use lib.ListN.{replicate, length-replicate}
+use Rattle.std.specs.Prelude.{Err}
+use Rattle.sheet_table.specs.Fields.{flaw}
+use Rattle.sheet_table.specs.declared.faults.Fault.TheVariants.{WrongFields}
 use Rattle.sheet_table.proofs.FieldLaws.{numbers_begin, numbers-lack, numbers-stop, numbers-turn, numbers-over-end, numbers-end}
 use Rattle.sheet_table.proofs.fields.read_numbers.Goals as goal
 
 pub loop-i-init : goal.loop-i-init
-loop-i-init c = (search rules, numbers_begin c.args.column c.args.mosts.now c.args.values.now _)
+loop-i-init g c =
+    let size : length c.args.limits.now ≡ g.row.N = search rules in
+    (size, omega (arith, length-replicate {A = ℕ} g.row.N 0), numbers_begin c.args.column c.args.limits.now (replicate g.row.N 0) _)
 
 pub returns-in_default : goal.returns-in_default
-returns-in_default c =
+returns-in_default g c =
     let t = c.loop-i.invariant in
-    numbers-lack c.args.column c.loop-i.i c.args.mosts.now c.loop-i.values _ _ t.1 (search rules) (rw c.in_default.is at c.next.ensures.steps).0
+    numbers-lack c.args.column c.loop-i.i c.args.limits.now c.loop-i.numbers _ _ t.2 (search rules) (rw c.in_default.is at c.next.ensures.steps).0
 
 pub returns-in-Err : goal.returns-in-Err
-returns-in-Err c =
+returns-in-Err g c =
     let t = c.loop-i.invariant in
-    numbers-stop c.args.column c.loop-i.i c.args.mosts.now c.loop-i.values _ _ t.1 _ _ (rw c.in-Some.is at c.next.ensures.steps) (search rules) c.in-Err.fault (sym c.in-Err.is ∙ c.check_number.ensures ∙ search rules)
+    numbers-stop c.args.column c.loop-i.i c.args.limits.now c.loop-i.numbers _ _ t.2 _ _ (rw c.in-Some.is at c.next.ensures.steps) (search rules) c.in-Err.fault (sym c.in-Err.is ∙ c.check_number.ensures ∙ search rules)
 
 pub loop-i-preserved : goal.loop-i-preserved
-loop-i-preserved c =
+loop-i-preserved g c =
     let t = c.loop-i.invariant in
-    (search rules, numbers-turn c.args.column c.loop-i.i c.args.mosts.now c.loop-i.values _ _ t.1 _ _ (rw c.in-Some.is at c.next.ensures.steps) (search rules) (search rules) c.in-Ok.value (sym c.in-Ok.is ∙ c.check_number.ensures ∙ search rules))
+    (t.0, search rules, numbers-turn c.args.column c.loop-i.i c.args.limits.now c.loop-i.numbers _ _ t.2 _ _ (rw c.in-Some.is at c.next.ensures.steps) (search rules) (search rules) c.in-Ok.number (sym c.in-Ok.is ∙ c.check_number.ensures ∙ search rules))
 
 pub returns-in-Some-next : goal.returns-in-Some-next
-returns-in-Some-next c =
+returns-in-Some-next g c =
     let t = c.loop-i.invariant in
-    let end : c.loop-i.i ≡ length c.args.mosts.now = search rules in
-    numbers-over-end c.args.column c.loop-i.i c.args.mosts.now c.loop-i.values _ _ t.1 _ _ (rw c.in-Some-next.is at c.next-2.ensures.steps) end
+    let end : c.loop-i.i ≡ length c.args.limits.now = search rules in
+    ap (λ n. Err (flaw (c.args.column + n) WrongFields)) (sym t.0)
+    ∙ numbers-over-end c.args.column c.loop-i.i c.args.limits.now c.loop-i.numbers _ _ t.2 _ _ (rw c.in-Some-next.is at c.next-2.ensures.steps) end
 
 pub returns-in-None : goal.returns-in-None
-returns-in-None c =
+returns-in-None g c =
     let t = c.loop-i.invariant in
-    numbers-end c.args.column c.loop-i.i c.args.mosts.now c.loop-i.values _ _ t.1 (search rules) t.0 (rw c.in-None.is at c.next-2.ensures.steps).0
+    numbers-end c.args.column c.loop-i.i c.args.limits.now c.loop-i.numbers _ _ t.2 (search rules) (t.1 ∙ sym t.0) (rw c.in-None.is at c.next-2.ensures.steps).0

@@ -6,6 +6,7 @@ use Rattle.sheet_table.proofs.FieldLaws.{after}
 use Rattle.sheet_table.proofs.fields.read_numbers.Given as goal
 
 abbrev pub invariant-loop-i : goal.invariant-loop-i
-invariant-loop-i l =
-    (length l.values ≡ length l.mosts)
-    × (numbers_in l.column l.mosts (pieces_left l.initial.fields) ≡ after (take l.i l.values) (numbers_in (l.column + l.i) (drop l.i l.mosts) (pieces_left l.fields)))
+invariant-loop-i g l =
+    (length l.mosts ≡ g.row.N)
+    × (length l.numbers ≡ g.row.N)
+    × (numbers_in l.column l.mosts (pieces_left l.initial.fields) ≡ after (take l.i l.numbers) (numbers_in (l.column + l.i) (drop l.i l.mosts) (pieces_left l.fields)))
