@@ -1,7 +1,7 @@
 -- The rule of a record by its kind, over the fields as they were taken out of the key.
 use Prim.Native.Nat.{ℕ, ◌≤◌, ◌<◌, zero-le}
 use mathlib.Core.Path.{◌≡◌, refl, sym, ◌∙◌}
-use mathlib.Core.Bool.{Bool, true, false, ◌&&◌, ◌||◌, not, and-false, and_assoc, false≢true}
+use mathlib.Core.Bool.{Bool, true, false, ◌&&◌, ◌||◌, not, and-false, false≢true}
 use mathlib.Core.Logic.{⊎_elim}
 use native.Mathlib.Omega.{arith}
 use borrow.Author.Tests.{eqb-true, eqb-false, le-leb, lt-leb, ne_eqb, leb-true}
@@ -73,10 +73,10 @@ module _ (I H kw k h i r y : ℕ) where
       (λ n₆. simp (no_kind (eqb-false k 1 n₁) (eqb-false k 2 n₂) (eqb-false k 3 n₃) n₄ (eqb-false k 6 n₆), and-false)))))))
 
   -- the same from the code's tests
-  pub record-rule : (key : ℕ) (rule : Rule) (a b c d : Bool)
+  pub record-rule : (key : ℕ) (rule : Rule) (a b c d w : Bool)
       → k ≡ kind_of key → h ≡ holder_of key → i ≡ intertie_of key → r ≡ rank_of key → y ≡ years_of key → rule ≡ rule_of k
       → a ≡ pick rule.holder (ltb h H) (eqb h 0) → b ≡ pick rule.intertie (ltb i I) (eqb i 0) → c ≡ pick rule.rank (leb 1 r) (eqb r 0)
-      → d ≡ pick rule.years (within 1 30 y) (eqb y 0)
-      → (a && b && c && d && leb rule.least kw && leb kw rule.most) ≡ record_stands I H key kw
-  record-rule key rule a b c d ek eh ei er ey e ea eb ec ed =
-      rw (ea, eb, ec, ed, e) (and_assoc (pick (names_holder k) (ltb h H) (eqb h 0) && pick (names_intertie k) (ltb i I) (eqb i 0) && pick (names_rank k) (leb 1 r) (eqb r 0) && pick (names_years k) (within 1 30 y) (eqb y 0)) (leb (least_of k) kw) (leb kw (most_of k)) ∙ by-its-kind key ek eh ei er ey)
+      → d ≡ pick rule.years (within 1 30 y) (eqb y 0) → w ≡ within rule.least rule.most kw
+      → (a && b && c && d && w) ≡ record_stands I H key kw
+  record-rule key rule a b c d w ek eh ei er ey e ea eb ec ed ew =
+      rw (ea, eb, ec, ed, ew, e) (by-its-kind key ek eh ei er ey)

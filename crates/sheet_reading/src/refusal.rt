@@ -7,10 +7,9 @@ ghost use Rattle.sheet_keys.specs.Key.{key_interties};
 ghost use Rattle.base.specs.Refused.{number_in};
 ghost use Rattle.sheet_records.specs.Refusal.{within, sheet_refusal};
 ghost use Rattle.sheet_reading.specs.Tables.{slots, count_table, kw_table, ReadSheet};
-ghost use Rattle.sheet_reading.specs.Workers.Adding.{SlotsOf};
 ghost use Rattle.sheet_reading.specs.Workers.Deciding.{sizes_refusal, table_rules_hold, table_existing_on, table_limit_holds, Modest};
 
-use crate::tables::{SLOTS, Tables};
+use crate::tables::{Found, SLOTS, Tables};
 use crate::{rules, tables};
 use base::limits;
 use base::limits::MOST_RECORDS;
@@ -100,25 +99,17 @@ impl Filled<'_> {
     }
 }
 
-// Refusals 3 and 4 of a sheet that 1 and 2 let pass, and its records in cleared tables. The slots of the records are at hand.
-fn read_sized(
-    sheet: &[u8],
-    found: &[u32; MOST_RECORDS],
-    counts: &mut [u16; SLOTS],
-    kw: &mut [u64; SLOTS],
-) -> Result<(), Refusal>
-    requires { (sizes_refusal sheet.now ≡ 0)
-        × SlotsOf sheet.now found.now
-        × (counts.old ≡ replicate slots 0)
-        × (kw.old ≡ replicate slots 0) }
-    ensures { (number_in result ≡ sheet_refusal sheet.now)
-        × (counts.new ≡ count_table sheet.now)
-        × (kw.new ≡ kw_table sheet.now) }
+// Refusals 3 and 4 of a sheet that 1 and 2 let pass, and its records in cleared tables.
+fn read_sized(found: Found, counts: &mut [u16; SLOTS], kw: &mut [u64; SLOTS]) -> Result<(), Refusal>
+    requires { (sizes_refusal found.sheet.now ≡ 0) × (counts.old ≡ replicate slots 0) × (kw.old ≡ replicate slots 0) }
+    ensures { let sheet = found.entry.sheet.now in
+        (number_in result ≡ sheet_refusal sheet) × (counts.new ≡ count_table sheet) × (kw.new ≡ kw_table sheet) }
 {
+    let sheet = found.sheet;
     let interties = words::intertie_count(sheet) as usize;
     let holders = words::holder_count(sheet) as usize;
     let stand = rules::records_stand(sheet);
-    tables::add_records(sheet, found, counts, kw);
+    found.add_records(counts, kw);
     let filled = Filled {
         counts,
         kw,
@@ -143,10 +134,14 @@ pub fn read_sheet(sheet: &[u8], tables: &mut Tables) -> Result<(), Refusal>
 {
     sizes_stand(sheet)?;
     *tables = Tables::empty();
-    let mut found = [0; MOST_RECORDS];
-    tables::find_slots(sheet, &mut found);
-    tables::place_records(sheet, &found, &mut tables.interties);
-    read_sized(sheet, &found, &mut tables.counts, &mut tables.kw)
+    let mut slots = [0; MOST_RECORDS];
+    tables::find_slots(sheet, &mut slots);
+    let found = Found {
+        sheet,
+        slots: &slots,
+    };
+    found.place_records(&mut tables.interties);
+    read_sized(found, &mut tables.counts, &mut tables.kw)
 }
 
 // Refuses a sheet, or lets it pass (docs/RULES.md, "The sheet"). (Two tables and no `Tables`: a refusal alone has no use for the
@@ -155,9 +150,13 @@ pub fn sheet_refusal(sheet: &[u8]) -> Result<(), Refusal>
     ensures { number_in result ≡ sheet_refusal sheet.now }
 {
     sizes_stand(sheet)?;
-    let mut found = [0; MOST_RECORDS];
-    tables::find_slots(sheet, &mut found);
+    let mut slots = [0; MOST_RECORDS];
+    tables::find_slots(sheet, &mut slots);
+    let found = Found {
+        sheet,
+        slots: &slots,
+    };
     let mut counts = [0; SLOTS];
     let mut kw = [0; SLOTS];
-    read_sized(sheet, &found, &mut counts, &mut kw)
+    read_sized(found, &mut counts, &mut kw)
 }

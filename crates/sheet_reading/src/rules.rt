@@ -98,8 +98,7 @@ fn record_stands(entry: Record, interties: u32, holders: u32) -> bool
         & field_stands(rule.intertie, key.intertie < interties, key.intertie)
         & field_stands(rule.rank, 1 <= key.rank, key.rank)
         & field_stands(rule.years, (1..=MOST_YEARS).contains(&key.years), key.years)
-        & (rule.least <= entry.kw)
-        & (entry.kw <= rule.most)
+        & (rule.least..=rule.most).contains(&entry.kw)
 }
 
 // Whether each record keeps its rule.

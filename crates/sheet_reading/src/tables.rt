@@ -1,8 +1,9 @@
 // The tables that the records fill. A record's slot goes by its kind, holder, intertie and rank, and is found for all of them
 // before the first is added. Records of no kind, and those of kinds 4 to 6 with a holder from 32 up, share the last slot.
-ghost use Rattle.std.specs.Prelude.{◌≡◌, false, ℕ, ◌<◌, length, replicate};
+ghost use Rattle.std.specs.Prelude.{◌≡◌, false, ℕ, ◌<◌, ◌^◌, length, replicate};
 ghost use Rattle.base.specs.Choice.{pick};
 ghost use Rattle.base.specs.Limits.{most_records};
+ghost use Rattle.base.specs.Words.{at};
 ghost use Rattle.sheet_keys.specs.Key.{key_holders, key_interties, key_ranks};
 ghost use Rattle.sheet_records.specs.Refusal.{bad_length};
 ghost use Rattle.sheet_reading.specs.Tables.{slot, slot_of, slots, count_table, kw_table, intertie_table};
@@ -127,36 +128,39 @@ pub(crate) fn find_slots(sheet: &[u8], found: &mut [u32; MOST_RECORDS])
     }
 }
 
-// Counts each record in cleared tables and adds its kilowatts, with its slot at hand. (Slots by place, here and below, as
-// `find_slots` writes them: the laws of a record and its place serve all three walks.)
-pub(crate) fn add_records(
-    sheet: &[u8],
-    found: &[u32; MOST_RECORDS],
-    counts: &mut [u16; SLOTS],
-    kw: &mut [u64; SLOTS],
-)
-    requires { (bad_length sheet.now ≡ false)
-        × SlotsOf sheet.now found.now
-        × (counts.old ≡ replicate slots 0)
-        × (kw.old ≡ replicate slots 0) }
-    ensures { (counts.new ≡ count_table sheet.now)
-        × (kw.new ≡ kw_table sheet.now) }
-{
-    for (place, record) in reader::records(sheet).enumerate() {
-        let slot = found[place] as usize;
-        counts[slot] += 1;
-        kw[slot] += u64::from(record.kw);
-    }
+// A sheet that refusal 1 lets pass, with the slots of its records. (Slots are read by place, as `find_slots` writes them: the laws
+// of a record and its place serve all three walks.)
+#[derive(Clone, Copy)]
+pub(crate) struct Found<'a> {
+    pub sheet: &'a [u8],
+    pub slots: &'a [u32; MOST_RECORDS],
+    ghost whole: { bad_length sheet.now ≡ false },
+    ghost bytes: { (i : ℕ) → at sheet.now i < 2 ^ 8 },
+    ghost known: { SlotsOf sheet.now slots.now },
 }
 
-// Adds the intertie of each record to a cleared table.
-pub(crate) fn place_records(sheet: &[u8], found: &[u32; MOST_RECORDS], interties: &mut [u16; SLOTS])
-    requires { (bad_length sheet.now ≡ false)
-        × SlotsOf sheet.now found.now
-        × (interties.old ≡ replicate slots 0) }
-    ensures { interties.new ≡ intertie_table sheet.now }
-{
-    for (place, record) in reader::records(sheet).enumerate() {
-        interties[found[place] as usize] += Key::from(record.key).intertie as u16;
+impl Found<'_> {
+    // Counts each record in cleared tables and adds its kilowatts.
+    pub(crate) fn add_records(self, counts: &mut [u16; SLOTS], kw: &mut [u64; SLOTS])
+        requires { (counts.old ≡ replicate slots 0) × (kw.old ≡ replicate slots 0) }
+        ensures { let sheet = self.entry.sheet.now in (counts.new ≡ count_table sheet) × (kw.new ≡ kw_table sheet) }
+    {
+        let found = self.slots;
+        for (place, record) in reader::records(self.sheet).enumerate() {
+            let slot = found[place] as usize;
+            counts[slot] += 1;
+            kw[slot] += u64::from(record.kw);
+        }
+    }
+
+    // Adds the intertie of each record to a cleared table.
+    pub(crate) fn place_records(self, interties: &mut [u16; SLOTS])
+        requires { interties.old ≡ replicate slots 0 }
+        ensures { interties.new ≡ intertie_table self.entry.sheet.now }
+    {
+        let found = self.slots;
+        for (place, record) in reader::records(self.sheet).enumerate() {
+            interties[found[place] as usize] += Key::from(record.key).intertie as u16;
+        }
     }
 }

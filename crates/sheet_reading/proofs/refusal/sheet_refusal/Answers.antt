@@ -14,4 +14,13 @@ pub find_slots-requires : goal.find_slots-requires
 find_slots-requires c = ((sizes-pass _ (sym c.sizes_stand.ensures ∙ ap number_in c.in_ok-sizes_stand.was)).0, refl)
 
 pub read_sized-requires : goal.read_sized-requires
-read_sized-requires c = (sym c.sizes_stand.ensures ∙ ap number_in c.in_ok-sizes_stand.was, c.find_slots.ensures, refl, refl)
+read_sized-requires c = (sym c.sizes_stand.ensures ∙ ap number_in c.in_ok-sizes_stand.was, refl, refl)
+
+pub invariant_of-found-clause-whole : goal.invariant_of-found-clause-whole
+invariant_of-found-clause-whole c = (sizes-pass _ (sym c.sizes_stand.ensures ∙ ap number_in c.in_ok-sizes_stand.was)).0
+
+pub invariant_of-found-clause-known : goal.invariant_of-found-clause-known
+invariant_of-found-clause-known c = c.find_slots.ensures
+
+pub invariant_of-found-clause-bytes : goal.invariant_of-found-clause-bytes
+invariant_of-found-clause-bytes c = λ i. (c.type_inv.sheet i).fits

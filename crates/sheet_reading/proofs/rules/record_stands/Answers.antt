@@ -6,5 +6,5 @@ use Rattle.sheet_reading.proofs.rules.record_stands.Goals as goal
 pub returns : goal.returns
 returns c =
     let k = c.from-key.ensures in
-    record-rule _ _ _ _ _ _ _ _ _ _ _ _ _ _ k.0 k.1 k.2 k.3 k.4 c.rule_of-rule.ensures
-    c.field_stands.ensures c.field_stands-2.ensures c.field_stands-3.ensures (search rules)
+    record-rule _ _ _ _ _ _ _ _ _ _ _ _ _ _ _ k.0 k.1 k.2 k.3 k.4 c.rule_of-rule.ensures
+    c.field_stands.ensures c.field_stands-2.ensures c.field_stands-3.ensures (search rules) (search rules)

@@ -1,31 +1,31 @@
 use Rattle.base.proofs.Prelude.{rules, arith}
 use Rattle.sheet_reading.proofs.PassLaws.{places-counted, place-below, slot-below, added-none, tie-room, placed_more, all-walked, added-all}
-use Rattle.sheet_reading.proofs.tables.place_records.Goals as goal
+use Rattle.sheet_reading.proofs.tables.Found.place_records.Goals as goal
 
 pub loop-place-init-derived : goal.loop-place-init-derived
 loop-place-init-derived c = search (rules, places-counted)
 
 pub bounds-found-place : goal.bounds-found-place
 bounds-found-place c =
-    place-below _ _ _ _ _ _ _ _ _ c.in-Some.ensures.steps c.loop-place.yielded_by c.enumerate-place-items.ensures.source c.records.ensures c.enumerate-place-items.ensures.count c.into_iter-place-iterator.ensures.into_iter_gives c.requires.0
+    place-below _ _ _ _ _ _ _ _ _ c.in-Some.ensures.steps c.loop-place.yielded_by c.enumerate-place-items.ensures.source c.records.ensures c.enumerate-place-items.ensures.count c.into_iter-place-iterator.ensures.into_iter_gives c.args.self.whole
 
 pub offset_bounds-found-place : goal.offset_bounds-found-place
 offset_bounds-found-place c =
-    omega (arith, place-below _ _ _ _ _ _ _ _ _ c.in-Some.ensures.steps c.loop-place.yielded_by c.enumerate-place-items.ensures.source c.records.ensures c.enumerate-place-items.ensures.count c.into_iter-place-iterator.ensures.into_iter_gives c.requires.0)
+    omega (arith, place-below _ _ _ _ _ _ _ _ _ c.in-Some.ensures.steps c.loop-place.yielded_by c.enumerate-place-items.ensures.source c.records.ensures c.enumerate-place-items.ensures.count c.into_iter-place-iterator.ensures.into_iter_gives c.args.self.whole)
 
 pub loop-place-init : goal.loop-place-init
 loop-place-init c = search (rules, added-none)
 
 pub bounds-interties-found : goal.bounds-interties-found
 bounds-interties-found c =
-    slot-below _ _ _ _ _ _ _ _ _ c.in-Some.ensures.steps c.loop-place.yielded_by c.enumerate-place-items.ensures.source c.records.ensures c.enumerate-place-items.ensures.count c.into_iter-place-iterator.ensures.into_iter_gives c.requires.0 _ c.requires.1
+    slot-below _ _ _ _ _ _ _ _ _ c.in-Some.ensures.steps c.loop-place.yielded_by c.enumerate-place-items.ensures.source c.records.ensures c.enumerate-place-items.ensures.count c.into_iter-place-iterator.ensures.into_iter_gives c.args.self.whole _ c.args.self.known
 
 pub overflow_add-interties : goal.overflow_add-interties
 overflow_add-interties c = search (rules, tie-room, c.in-Some.ensures.steps)
 
 pub bounds-interties-found-in-loop-place : goal.bounds-interties-found-in-loop-place
 bounds-interties-found-in-loop-place c =
-    slot-below _ _ _ _ _ _ _ _ _ c.in-Some.ensures.steps c.loop-place.yielded_by c.enumerate-place-items.ensures.source c.records.ensures c.enumerate-place-items.ensures.count c.into_iter-place-iterator.ensures.into_iter_gives c.requires.0 _ c.requires.1
+    slot-below _ _ _ _ _ _ _ _ _ c.in-Some.ensures.steps c.loop-place.yielded_by c.enumerate-place-items.ensures.source c.records.ensures c.enumerate-place-items.ensures.count c.into_iter-place-iterator.ensures.into_iter_gives c.args.self.whole _ c.args.self.known
 
 pub loop-place-preserved : goal.loop-place-preserved
 loop-place-preserved c = search (rules, placed_more, c.in-Some.ensures.steps)
