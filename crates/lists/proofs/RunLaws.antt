@@ -183,15 +183,6 @@ module _ (encoded s grants answers : List ℕ) where
     omega (arith, running.grants-size, running.start_is),
   )
 
-  -- after all calls
-  pub running-all : {n start : ℕ} {t h a : List ℕ} → Running encoded s grants answers n start t h a → call_count encoded ≤ n →
-      (t ≡ after (calls_of encoded grants) s)
-      × (h ≡ grants_after encoded s grants (call_count encoded))
-      × (a ≡ answers_after encoded s grants answers (call_count encoded))
-  running-all {n = n} running all =
-      let end : n ≡ call_count encoded = omega (arith, running.inside) in
-      (rw end at running.state-is, rw end at running.grants-is, rw end at running.answers-is)
-
   -- what a run leaves, by the test of the words
   pub run_none : accepted encoded (length answers) ≡ false →
       (false ≡ (run encoded s grants answers).done)

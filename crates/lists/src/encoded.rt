@@ -1,5 +1,5 @@
 // Calls as 32-bit words: whether words are a list of calls, and what the words of one say.
-ghost use Rattle.std.specs.Prelude.{◌≡◌, true, ℕ, ◌+◌, ◌≤◌, List, [], get_or, min, length};
+ghost use Rattle.std.specs.Prelude.{◌≡◌, true, ℕ, ◌+◌, ◌≤◌, [], get_or, min, length};
 ghost use Rattle.base.specs.CallKind.{number_of};
 ghost use Rattle.base.specs.Limits.{grants_words};
 ghost use Rattle.base.specs.Sums.{all_to};
@@ -7,9 +7,9 @@ ghost use Rattle.base.specs.Words.{at};
 ghost use Rattle.lists.specs.Encoded.{kind_of, known_kind, kw_of, accepted};
 
 use base::encoding::{ANSWER_WORDS, CALL_WORDS, CallKind};
-use base::limits::GRANTS_WORDS;
+use base::limits::{GRANTS_WORDS, WORD_VALUES};
 
-// A call as its words say it.
+// A call as its words say it. (Not the `Call` of journal: a line's number is one word, and the kW of a call in a list are two.)
 #[derive(Clone, Copy)]
 pub(super) struct Call {
     pub kind: CallKind,
@@ -20,7 +20,7 @@ pub(super) struct Call {
 }
 
 impl Call {
-    // The call of words whose kind is known.
+    // The call of words whose kind is known. (Decoded again here: no call runs before the kinds of all are known.)
     pub(super) fn of(words: &[u32; CALL_WORDS]) -> Call
         requires { known_kind (kind_of words.now) ≡ true }
         ensures { let w = words.now in
@@ -64,7 +64,7 @@ fn known_kind(kind: u32) -> bool
 fn kw_of(low: u32, high: u32) -> u64
     ensures { result ≡ kw_of low high }
 {
-    (low as u64) + 4294967296 * (high as u64)
+    u64::from(low) + WORD_VALUES * u64::from(high)
 }
 
 // Where the words of the grants buffer end that a closing is lent from a place on.

@@ -15,7 +15,8 @@ use base::encoding::{ANSWER_WORDS, CALL_WORDS, CallKind};
 use base::refusals::Refusal;
 use base::{Answer, Granted};
 
-// Runs all calls of a list.
+// Runs all calls of a list. (What is lent to a closing and where an answer stands go by place: of `chunks_mut` and
+// `as_chunks_mut` nothing is said of what the slice ends as.)
 pub(super) fn run_all(calls: &[u32], state: &mut [u32], grants: &mut [u32], answers: &mut [u64])
     requires { accepted calls.now (length answers.old) ≡ true }
     ensures { let words = calls.now in let s = state.old in let g = grants.old in
@@ -31,7 +32,7 @@ pub(super) fn run_all(calls: &[u32], state: &mut [u32], grants: &mut [u32], answ
 }
 
 // Runs call n, given by its words. The next closing is lent the words of the grants buffer from
-// `start` on. Returns where those of the closing after this call begin.
+// `start` on. Returns where those of the closing after this call begin. (State, grants and answers are three, as C lends them.)
 fn run_call(
     words: &[u32; CALL_WORDS],
     n: usize,
@@ -80,7 +81,7 @@ fn store_answer(answers: &mut [u64], n: usize, answer: Answer)
     ensures { answers.new ≡ with_answer answers.old n answer }
 {
     let place = ANSWER_WORDS * n;
-    answers[place] = answer.refusal as u64;
+    answers[place] = u64::from(answer.refusal);
     answers[place + 1] = answer.kw;
     answers[place + 2] = answer.passes;
 }

@@ -35,7 +35,7 @@ pub extern "C" fn zankurbe_version() -> u32
     VERSION
 }
 
-// The number of an outcome's refusal, or 0.
+// The number of an outcome's refusal, or 0. (C reads a number.)
 fn number_in(outcome: Result<(), Refusal>) -> u32
     ensures { result ≡ number_in outcome }
 {
@@ -173,7 +173,7 @@ pub extern "C" fn zankurbe_close(state: &mut [u32], grants: &mut [u32]) -> Answe
     Answer::from(closing::close(state, grants))
 }
 
-// Runs a list of calls (lists::run_calls). False, and nothing touched, where the words are no such list.
+// Runs a list of calls (lists::run_calls). False, and nothing touched, where the words are no such list. (C reads a bool.)
 #[unsafe(no_mangle)]
 pub extern "C" fn zankurbe_run_calls(
     calls: &[u32],

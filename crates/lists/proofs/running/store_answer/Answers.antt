@@ -5,4 +5,4 @@ use Rattle.lists.proofs.running.store_answer.Goals as goal
 pub bounds-answers-place-2 : goal.bounds-answers-place-2
 bounds-answers-place-2 c =
     let a = c.args in
-    omega (arith, length-set a.answers.now (3 * a.n) a.answer.refusal, c.requires)
+    omega (arith, length-set a.answers.now (3 * a.n) c.from.result, c.requires)
