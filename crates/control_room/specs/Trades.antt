@@ -1,5 +1,5 @@
 -- What a holder bought and sold by a list of calls, from the words of the calls and of their answers.
-use Rattle.std.specs.Prelude.{ℕ, ◌+◌, ◌*◌, min, Bool, ◌&&◌, List, eqb}
+use Rattle.std.specs.Prelude.{ℕ, ◌+◌, ◌*◌, ◌/◌, min, Bool, ◌&&◌, List, eqb, length}
 use Rattle.base.specs.Choice.{pick}
 use Rattle.base.specs.Encoding.{call_words, answer_words, trade_call}
 use Rattle.base.specs.Sums.{sum_to}
@@ -22,6 +22,10 @@ kw_word = 4
 abbrev pub word_of : Party → ℕ
 word_of Seller = seller_word
 word_of Buyer = buyer_word
+
+-- how many calls lists of words have with an answer
+abbrev pub called_count : List ℕ → List ℕ → ℕ
+called_count calls answers = min (length calls / call_words) (length answers / answer_words)
 
 -- word k of call n
 abbrev pub call_word : List ℕ → ℕ → ℕ → ℕ

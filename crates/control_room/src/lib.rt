@@ -7,6 +7,7 @@ mod trades;
 
 ghost use Rattle.std.specs.Prelude.{◌≡◌};
 ghost use Rattle.control_room.specs.Figures.{intertie_figures, holder_figures};
+ghost use Rattle.control_room.specs.Trades.{called_count};
 
 use base::limits::STATE_WORDS;
 use state::layout;
@@ -60,8 +61,8 @@ pub fn intertie_figures(state: &[u32; STATE_WORDS], intertie: u32) -> IntertieFi
 // The figures of a holder, with the trades of the calls; all 0 where the state has no holder of that number.
 #[tactic(auto, using(crate::proofs::FigureLaws::holder_read), unfolding(crate::specs::Trades::bought, crate::specs::Trades::sold))]
 pub fn holder_figures(state: &[u32; STATE_WORDS], called: Called<'_>, holder: u32) -> HolderFigures
-    ensures { let c = called.entry in
-        result ≡ holder_figures state.now c.calls.now c.answers.now c.count holder }
+    ensures { let calls = called.entry.calls.now in let answers = called.entry.answers.now in
+        result ≡ holder_figures state.now calls answers (called_count calls answers) holder }
 {
     if !sums::is_among(state, holder, state::holder_count(state)) {
         return HolderFigures::default();

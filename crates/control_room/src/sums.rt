@@ -5,15 +5,12 @@ ghost use Rattle.base.specs.Limits.{most_holders};
 ghost use Rattle.state.specs.Layout.{place, holders};
 ghost use Rattle.control_room.specs.Figures.{sizes_fit, reserved_on};
 
-use base::limits;
 use base::limits::STATE_WORDS;
+use base::limits::words::{MOST_HOLDERS, MOST_INTERTIES};
 use state::layout;
 
-const MOST_INTERTIES: u32 = limits::MOST_INTERTIES as u32;
-
-const MOST_HOLDERS: u32 = limits::MOST_HOLDERS as u32;
-
-// Whether the state has no more interties and holders than a sheet may have.
+// Whether the state has no more interties and holders than a sheet may have. (Not base's `sizes_in_range`, which asks for one
+// of each: a holder of a state without interties has figures.)
 #[tactic(auto, unfolding(crate::specs::Figures::sizes_fit))]
 fn sizes_in_range(state: &[u32; STATE_WORDS]) -> bool
     ensures { result ≡ sizes_fit state.now }

@@ -3,10 +3,10 @@ ghost use Rattle.std.specs.Prelude.{◌≡◌, ◌+◌, ◌*◌, ◌<◌, List, 
 ghost use Rattle.base.specs.Sums.{sum_to};
 ghost use Rattle.base.specs.Words.{at};
 ghost use Rattle.journal.specs.Sizes.{most_calls};
-ghost use Rattle.control_room.specs.Trades.{word_of, traded_by, traded_in};
+ghost use Rattle.control_room.specs.Trades.{word_of, called_count, traded_by, traded_in};
 
 use base::encoding::{ANSWER_WORDS, CALL_WORDS, CallKind};
-use journal::sizes::{ANSWERS_WORDS, CALLS_WORDS, MOST_CALLS};
+use journal::sizes::MOST_CALLS;
 
 // The parties of a trade, each by the word that names it. The kind is word 0.
 #[derive(Clone, Copy)]
@@ -43,32 +43,25 @@ fn traded_in(
     0
 }
 
-// The first calls of a list, with the answers to them.
+// The words of calls, and of the answers to them.
 #[derive(Clone, Copy)]
 pub struct Called<'a> {
-    pub calls: &'a [u32; CALLS_WORDS],
-    pub answers: &'a [u64; ANSWERS_WORDS],
-    pub count: usize,
+    pub calls: &'a [u32],
+    pub answers: &'a [u64],
 }
 
 impl Called<'_> {
-    // The kW of these calls that are granted trades with the holder as the party, as far as there are words for calls.
+    // The kW of these calls that are granted trades with the holder as the party, up to as many calls as a journal has.
     pub(super) fn traded(self, party: Party, holder: u32) -> u64
-        ensures { let called = self.entry in
-            result ≡ sum_to (min called.count most_calls) (traded_in called.calls.now called.answers.now (word_of party) holder) }
+        ensures { let called = self.entry in let calls = called.calls.now in let answers = called.answers.now in
+            result ≡ sum_to (min (called_count calls answers) most_calls) (traded_in calls answers (word_of party) holder) }
     {
-        let Called {
-            calls,
-            answers,
-            count,
-        } = self;
-        // By place: over `zip` and `take` a turn's call and answer are known only by what the iterators have left, which took
-        // a longer proof.
-        let (calls, _) = calls.as_chunks::<CALL_WORDS>();
-        let (answers, _) = answers.as_chunks::<ANSWER_WORDS>();
+        let (calls, _) = self.calls.as_chunks::<CALL_WORDS>();
+        let (answers, _) = self.answers.as_chunks::<ANSWER_WORDS>();
+        let calls = &calls[..calls.len().min(MOST_CALLS)];
         let mut sum = 0;
-        for n in 0..count.min(MOST_CALLS) {
-            sum += u64::from(traded_in(&calls[n], &answers[n], party, holder));
+        for (call, answer) in calls.iter().zip(answers) {
+            sum += u64::from(traded_in(call, answer, party, holder));
         }
         sum
     }

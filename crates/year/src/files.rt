@@ -11,11 +11,10 @@ pub(super) fn read_argument<'a, R: Env + Files>(
     buffer: &'a mut [u8],
 ) -> Result<&'a [u8], Failure> {
     let mut room = io::buffer();
-    let name = input::argument(rt, argument, &mut room).map_err(|error| Failure::Name(error))?;
-    match input::read_file(rt, name, buffer) {
-        Ok(count) => Ok(&buffer[..count]),
-        Err(failed) => Err(Failure::File(argument, failed.error)),
-    }
+    let name = input::argument(rt, argument, &mut room).map_err(Failure::Name)?;
+    let count = input::read_file(rt, name, buffer)
+        .map_err(|failed| Failure::File(argument, failed.error))?;
+    Ok(&buffer[..count])
 }
 
 // Writes the name that an argument gives to standard error.

@@ -9,7 +9,9 @@ mod output;
 mod running;
 
 use arrayvec::ArrayVec;
+use base::encoding::CALL_WORDS;
 use base::limits::{MOST_SHEET_BYTES, STATE_WORDS};
+use control_room::Called;
 use faults::Failure;
 use input::has_argument;
 use journal::sizes::{ANSWERS_WORDS, CALLS_WORDS, MOST_JOURNAL_BYTES};
@@ -18,7 +20,7 @@ use std::rt::{Env, Files};
 use year_text::TEXT_BYTES;
 
 // The arguments: the names of the sheet, of the journal and, where there is a third, of the sheet that
-// is written for next year. The program's own name is argument 0.
+// is written for next year. The program's own name is argument 0. (Numbers: an argument is asked for by its number.)
 const SHEET: usize = 1;
 
 const JOURNAL: usize = 2;
@@ -68,10 +70,8 @@ fn read_calls<'a, R: Env + Files>(
     if MOST_JOURNAL_BYTES < text.len() {
         return Err(Failure::TooLongJournal);
     }
-    match journal::read_journal(text, words) {
-        Ok(count) => Ok(Calls { words, count }),
-        Err(unreadable) => Err(Failure::Journal(unreadable)),
-    }
+    let count = journal::read_journal(text, words).map_err(Failure::Journal)?;
+    Ok(Calls { words, count })
 }
 
 // Runs the calls on the sheet and, where an argument names it, writes next year's sheet.
@@ -113,6 +113,10 @@ fn print_figures(
 ) -> Result<(), Failure> {
     year_text::interties_text(state, text);
     output::write(stdout, text.as_slice())?;
-    year_text::holders_text(state, calls.words, answers, calls.count, text);
+    let called = Called {
+        calls: &calls.words[..CALL_WORDS * calls.count],
+        answers,
+    };
+    year_text::holders_text(state, called, text);
     output::write(stdout, text.as_slice())
 }

@@ -23,7 +23,7 @@ pub(super) fn write_next<R: Env + Files>(
     state: &[u32; STATE_WORDS],
 ) -> Result<(), Failure> {
     let mut next = [0u8; MOST_SHEET_BYTES];
-    carrying::carry(sheet, state, &mut next).map_err(|refusal| Failure::NotCarried(refusal))?;
+    carrying::carry(sheet, state, &mut next).map_err(Failure::NotCarried)?;
     write_argument(rt, sheet_in(&next))
 }
 
@@ -40,7 +40,7 @@ fn sheet_in(bytes: &[u8]) -> &[u8]
 // Writes next year's sheet to the file that the third argument names.
 fn write_argument<R: Env + Files>(rt: &R, sheet: &[u8]) -> Result<(), Failure> {
     let mut room = io::buffer();
-    let name = input::argument(rt, NEXT_SHEET, &mut room).map_err(|error| Failure::Name(error))?;
+    let name = input::argument(rt, NEXT_SHEET, &mut room).map_err(Failure::Name)?;
     write_file(rt, name, sheet).map_err(|error| Failure::File(NEXT_SHEET, error))
 }
 

@@ -4,7 +4,5 @@ use super::faults::Failure;
 
 // Writes a text.
 pub(super) fn write(stdout: &impl Print, text: &[u8]) -> Result<(), Failure> {
-    stdout
-        .write_all(text)
-        .map_err(|error| Failure::Output(error))
+    stdout.write_all(text).map_err(Failure::Output)
 }

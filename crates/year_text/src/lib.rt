@@ -1,17 +1,19 @@
-// What program `year` prints, as text. Each public function makes its text in the room that it is lent, over what stood there.
+// What program `year` prints, as text. Each public function makes its text in the room that it is lent, over what stood there:
+// a text of 98 KB that is answered would be cleared and copied each time.
 #![tactic(auto)]
 
 ghost use Rattle.std.specs.Prelude.{◌≡◌};
 ghost use Rattle.base.specs.Words.{at};
 ghost use Rattle.text.specs.Written.{appended};
+ghost use Rattle.control_room.specs.Trades.{called_count};
 ghost use Rattle.year_text.specs.Text.{text_bytes, answer_line, answers_text, grant_line, grants_text};
 ghost use Rattle.year_text.specs.Text.{intertie_line, interties_text, holder_line, holders_text};
 
 use arrayvec::ArrayVec;
 use base::encoding::ANSWER_WORDS;
-use base::limits::{GRANTS_WORDS, MOST_HOLDERS, MOST_INTERTIES, STATE_WORDS};
+use base::limits::words::{MOST_HOLDERS, MOST_INTERTIES};
+use base::limits::{GRANTS_WORDS, STATE_WORDS};
 use control_room::Called;
-use journal::sizes::{ANSWERS_WORDS, CALLS_WORDS};
 use text::put_line;
 
 // The most answers of a text.
@@ -46,7 +48,8 @@ fn put_answer(answer: &[u64; ANSWER_WORDS], text: &mut ArrayVec<u8, TEXT_BYTES>)
     }
 }
 
-// The grants of a closing that are not 0: word h·I + i is holder h's on intertie i.
+// The grants of a closing that are not 0: word h·I + i is holder h's on intertie i. (By the word's number: over
+// `chunks` of I words it would be a loop in a loop.)
 pub fn grants_text(
     grants: &[u32; GRANTS_WORDS],
     interties: usize,
@@ -69,7 +72,7 @@ fn put_grant(holder: usize, intertie: usize, kw: u32, text: &mut ArrayVec<u8, TE
     ensures { text.new.items ≡ appended text_bytes (grant_line holder intertie kw) text.old.items }
 {
     if kw != 0 {
-        let figures = [holder as u64, intertie as u64, kw as u64];
+        let figures = [holder as u64, intertie as u64, u64::from(kw)];
         put_line(b"G", b' ', &figures, text);
     }
 }
@@ -79,7 +82,7 @@ pub fn interties_text(state: &[u32; STATE_WORDS], text: &mut ArrayVec<u8, TEXT_B
     ensures { text.new.items ≡ interties_text state.now }
 {
     text.clear();
-    let count = state::intertie_count(state).min(MOST_INTERTIES as u32);
+    let count = state::intertie_count(state).min(MOST_INTERTIES);
     for intertie in 0..count {
         put_intertie(state, intertie, text);
     }
@@ -92,7 +95,7 @@ fn put_intertie(state: &[u32; STATE_WORDS], intertie: u32, text: &mut ArrayVec<u
 {
     let figures = control_room::intertie_figures(state, intertie);
     let numbers = [
-        intertie as u64,
+        u64::from(intertie),
         figures.limit,
         figures.outside,
         figures.reserved,
@@ -103,24 +106,18 @@ fn put_intertie(state: &[u32; STATE_WORDS], intertie: u32, text: &mut ArrayVec<u
     put_line(b"I", b' ', &numbers, text);
 }
 
-// The figures of every holder, with the trades of the first `count` calls.
+// The figures of every holder, with the trades of the calls.
 pub fn holders_text(
     state: &[u32; STATE_WORDS],
-    calls: &[u32; CALLS_WORDS],
-    answers: &[u64; ANSWERS_WORDS],
-    count: usize,
+    called: Called<'_>,
     text: &mut ArrayVec<u8, TEXT_BYTES>,
 )
-    ensures { text.new.items ≡ holders_text state.now calls.now answers.now count }
+    ensures { let calls = called.entry.calls.now in let answers = called.entry.answers.now in
+        text.new.items ≡ holders_text state.now calls answers (called_count calls answers) }
 {
     text.clear();
-    let called = Called {
-        calls,
-        answers,
-        count,
-    };
-    let end = state::holder_count(state).min(MOST_HOLDERS as u32);
-    for holder in 0..end {
+    let count = state::holder_count(state).min(MOST_HOLDERS);
+    for holder in 0..count {
         put_holder(state, called, holder, text);
     }
 }
@@ -133,13 +130,13 @@ fn put_holder(
     holder: u32,
     text: &mut ArrayVec<u8, TEXT_BYTES>,
 )
-    ensures { let c = called.entry in
-        let line = holder_line state.now c.calls.now c.answers.now c.count holder in
+    ensures { let calls = called.entry.calls.now in let answers = called.entry.answers.now in
+        let line = holder_line state.now calls answers (called_count calls answers) holder in
         text.new.items ≡ appended text_bytes line text.old.items }
 {
     let figures = control_room::holder_figures(state, called, holder);
     let numbers = [
-        holder as u64,
+        u64::from(holder),
         figures.step_5_share,
         figures.bought,
         figures.sold,
