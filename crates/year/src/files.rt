@@ -12,8 +12,10 @@ pub(super) fn read_argument<'a, R: Env + Files>(
 ) -> Result<&'a [u8], Failure> {
     let mut room = io::buffer();
     let name = input::argument(rt, argument, &mut room).map_err(Failure::Name)?;
-    let count = input::read_file(rt, name, buffer)
-        .map_err(|failed| Failure::File(argument, failed.error))?;
+    let count = input::read_file(rt, name, buffer).map_err(|failed| Failure::File(
+        argument,
+        failed.error,
+    ))?;
     Ok(&buffer[..count])
 }
 

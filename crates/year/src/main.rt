@@ -104,11 +104,11 @@ fn print_year(
 }
 
 // Prints what a control room asks for of every intertie and every holder.
-fn print_figures(
+fn print_figures<'a>(
     stdout: &impl Print,
     state: &[u32; STATE_WORDS],
-    calls: Calls<'_>,
-    answers: &[u64; ANSWERS_WORDS],
+    calls: Calls<'a>,
+    answers: &'a [u64; ANSWERS_WORDS],
     text: &mut ArrayVec<u8, TEXT_BYTES>,
 ) -> Result<(), Failure> {
     year_text::interties_text(state, text);

@@ -10,11 +10,8 @@ use base::limits::{MOST_SHEET_BYTES, RECORD_BYTES, SHEET_HEADER_BYTES, STATE_WOR
 use sheet_records::words;
 use std::fs;
 use std::fs::OpenFile;
-use std::io::{Error, Write};
+use std::io::{Error, ErrorKind, Write};
 use std::rt::{Env, Files};
-
-// The system's number of a call that a file doesn't take.
-const INVALID: i32 = 22;
 
 // Carries the year and writes next year's sheet. A refusal touches no file.
 pub(super) fn write_next<R: Env + Files>(
@@ -27,7 +24,8 @@ pub(super) fn write_next<R: Env + Files>(
     write_argument(rt, sheet_in(&next))
 }
 
-// The sheet that bytes begin with: its 12 + 8·K bytes, or as many of them as there are.
+// The sheet that bytes begin with: its 12 + 8·K bytes, or as many of them as there are. (Its length is read back from its
+// bytes: carry writes into an output that is lent, as C lends it.)
 #[tactic(auto, using(lists::proofs::EncodedLaws::take_most))]
 fn sheet_in(bytes: &[u8]) -> &[u8]
     ensures { let b = bytes.now in
@@ -54,7 +52,7 @@ fn write_file(files: &impl Files, name: &[u8], bytes: &[u8]) -> Result<(), Error
 // Has the system store what was written. What isn't stored, as a pipe, has nothing to keep.
 fn keep(file: &impl OpenFile) -> Result<(), Error> {
     match file.sync_all() {
-        Err(error) if error.raw_os_error() != Some(INVALID) => Err(error),
+        Err(error) if error.kind() != ErrorKind::InvalidInput => Err(error),
         _ => Ok(()),
     }
 }

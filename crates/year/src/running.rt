@@ -13,7 +13,8 @@ use base::limits::GRANTS_WORDS;
 use journal::sizes::{ANSWERS_WORDS, CALLS_WORDS};
 use year_text::{MOST_ANSWERS, TEXT_BYTES};
 
-// The calls of a journal: the first words are theirs.
+// The calls of a journal: the first words are theirs. (With the count of calls, as reading a journal answers it: a stretch goes
+// from a call to a call.)
 #[derive(Clone, Copy)]
 pub(super) struct Calls<'a> {
     pub words: &'a [u32; CALLS_WORDS],
@@ -46,7 +47,8 @@ impl Calls<'_> {
         Ok(())
     }
 
-    // Where the stretch from a call on ends: after its first closing, with the most answers of a text, or with the last call.
+    // Where the stretch from a call on ends: after its first closing, with the most answers of a text, or with the last call. (By
+    // the call's number: `position` counts from where the stretch begins, which would be added to it again.)
     fn stretch_end(self, first: usize) -> usize
         requires { first < self.count }
         ensures { let calls = self.entry in
