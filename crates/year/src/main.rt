@@ -113,8 +113,9 @@ fn print_figures<'a>(
 ) -> Result<(), Failure> {
     year_text::interties_text(state, text);
     output::write(stdout, text.as_slice())?;
+    let words = calls.words;
     let called = Called {
-        calls: &calls.words[..CALL_WORDS * calls.count],
+        calls: &words[..CALL_WORDS * calls.count],
         answers,
     };
     year_text::holders_text(state, called, text);
