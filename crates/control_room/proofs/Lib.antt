@@ -1,3 +1,4 @@
 pub mod ChunkLaws
+pub mod CutLaws
 pub mod TradeLaws
 pub mod FigureLaws

@@ -1,7 +1,6 @@
 // The granted trades of a list: what a holder bought and sold by them.
-ghost use Rattle.std.specs.Prelude.{◌≡◌, ◌+◌, ◌*◌, ◌<◌, List, min, slice_index_or};
+ghost use Rattle.std.specs.Prelude.{◌≡◌, min};
 ghost use Rattle.base.specs.Sums.{sum_to};
-ghost use Rattle.base.specs.Words.{at};
 ghost use Rattle.journal.specs.Sizes.{most_calls};
 ghost use Rattle.control_room.specs.Trades.{word_of, called_count, traded_by, traded_in};
 

@@ -2,7 +2,7 @@
 // figures, group by group in the order of its rows. Apart from opening for the prover's time.
 #![tactic(auto)]
 
-ghost use Rattle.std.specs.Prelude.{◌≡◌, ℕ, ◌+◌, ◌%◌, ◌≤◌, ◌<◌};
+ghost use Rattle.std.specs.Prelude.{◌≡◌, ℕ, ◌+◌, ◌≤◌, ◌<◌};
 ghost use Rattle.base.specs.Limits.{most_interties, most_holders};
 ghost use Rattle.base.specs.Words.{at};
 ghost use Rattle.sheet_reading.specs.Tables.{slots};

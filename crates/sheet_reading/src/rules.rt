@@ -2,7 +2,7 @@
 // so that a record takes no branch.
 ghost use Rattle.std.specs.Prelude.{◌≡◌, false, eqb};
 ghost use Rattle.base.specs.Choice.{pick};
-ghost use Rattle.sheet_records.specs.Refusal.{within, bad_length, record_stands, records_stand};
+ghost use Rattle.sheet_records.specs.Refusal.{bad_length, record_stands, records_stand};
 ghost use Rattle.sheet_reading.specs.Workers.Kinds.{rule_of};
 
 use base::kinds::Kind;

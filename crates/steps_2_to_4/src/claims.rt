@@ -1,5 +1,5 @@
 // The claims of Steps 4a and 4b, a table of the pairs with a row of the interties for each holder.
-ghost use Rattle.std.specs.Prelude.{◌≡◌, ℕ, ◌-◌, ◌<◌, length};
+ghost use Rattle.std.specs.Prelude.{◌≡◌, ℕ, ◌<◌, length};
 ghost use Rattle.base.specs.Limits.{most_interties};
 ghost use Rattle.base.specs.Words.{at};
 ghost use Rattle.steps.specs.Step4a.{pre_ra_claim};
