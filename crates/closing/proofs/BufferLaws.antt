@@ -33,10 +33,12 @@ pub row_word : (table : List ℕ) {rows : List (List ℕ)} (H I h i : ℕ) → l
 row_word table {rows = rows} H I h i size e few p q =
     let low : h < H = omega (arith, length-take H rows) in
     let inside : i < I = omega (arith, length-take I (get_or (take H rows) h [])) in
-    let all : length rows ≡ length table / 48 = ap length e ∙ length-rows 48 (length table / 48) table in
-    (low, inside,
-    get_or-take I _ i 0 inside ∙ ap (λ r. at r i) (get_or-take H rows h [] low) ∙ ap (λ r. at (get_or r h []) i) e
-    ∙ at-row 48 (length table / 48) h i table (omega (arith, length-take H rows)) (omega arith))
+    let all : length rows ≡ length table / 48 = ap length e ∙ length-rows 48 (length table / 48) table in (
+      low,
+      inside,
+      get_or-take I _ i 0 inside ∙ ap (λ r. at r i) (get_or-take H rows h [] low) ∙ ap (λ r. at (get_or r h []) i) e
+          ∙ at-row 48 (length table / 48) h i table (omega (arith, length-take H rows)) (omega arith),
+    )
 
 -- the first n words of the buffer are this closing's
 pub record Writing (s first grants : List ℕ) (n : ℕ) : Type 0 where
