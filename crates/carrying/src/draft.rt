@@ -153,7 +153,7 @@ impl Draft {
             | (room < SHEET_HEADER_BYTES + RECORD_BYTES * self.count)
     }
 
-    // Writes a draft that fits as a sheet.
+    // Writes a draft that fits as a sheet. (What `write_sheet` answers is never none: there is room.)
     pub(crate) fn write(&self, interties: u32, holders: u32, output: &mut [u8])
         requires { (length self.now.keys ≤ most_records) × (size_of (length self.now.keys) ≤ length output.old) }
         ensures { output.new ≡ with_sheet (sheet_bytes interties holders self.now.keys self.now.kws) output.old }

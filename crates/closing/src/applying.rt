@@ -29,8 +29,8 @@ fn write_state(
     state::store(state, layout::YEAR, layout::STAGE, stage + 1);
 }
 
-// Carries this closing's grants, which a table has, into the state. (The state is written, so that it is no field of
-// `Closing` here.)
+// Carries this closing's grants, which a table has, into the state. (No method of `Closing`, which only reads the
+// state.)
 pub(super) fn apply(state: &mut [u32], table: &[u64; MOST_PAIRS])
     requires { Closable state.old × Grants state.old table.now }
     ensures { state.new ≡ close_state state.old }

@@ -5,8 +5,8 @@ ghost use Rattle.state.specs.Layout.{place};
 
 use state::layout::ROW_WORDS;
 
-// Reads the words of a state from a row on, as many as there are numbers. (Lent, of 32, 48 and 1,536: answered, each would need its
-// length as a const parameter, and no caller would be plainer. By place: what a zip of `iter_mut` lends is lost to the proof.)
+// Reads the words of a state from a row on, as many as there are numbers. (Lent, of 32, 48 and 1,536: the longest, of 12 KB,
+// would be copied if it were answered. By place: what a zip of `iter_mut` lends is lost to the proof.)
 pub(super) fn read_rows(state: &[u32], row: u32, numbers: &mut [u64])
     requires { place row (length numbers.old) ≤ length state.now }
     ensures { numbers.new ≡ tab (length numbers.old) (λ (c : ℕ). at state.now (place row c)) }

@@ -15,8 +15,8 @@ use std::fs;
 use std::io::Error;
 use std::rt::{Env, Files};
 
-// The system's numbers of errors: there is no such argument, a name is too long, a name isn't text. (By number: it has the text
-// that is printed.)
+// The system's numbers of errors: there is no such argument, a name is too long, a name isn't text. (By number and not
+// by `ErrorKind`: the system's text for the number is printed.)
 const INVALID: i32 = 22;
 
 const TOO_LONG: i32 = 36;
@@ -32,7 +32,8 @@ pub struct ReadError {
 
 // Reads a file into the start of a buffer, to its end or as much as there is room for, and answers how many bytes that
 // is. The bytes that were read, also before a read that fails, are those that the file began with, and no other is
-// taken from it. (A while: each read says where the next begins.)
+// taken from it. (A while: each read says where the next begins. A count, as `read` answers it: the buffer is
+// the caller's.)
 pub fn read_whole<R: std::io::Read>(file: &mut R, buffer: &mut [u8]) -> Result<usize, ReadError>
     ensures within { IsPrefixLen (read_count result) buffer.new }
     ensures bytes { Consumes (R.remaining file.old) (R.remaining file.new) (take (read_count result) buffer.new) }
@@ -57,7 +58,7 @@ pub fn read_file<F: Files>(files: &F, name: &[u8], buffer: &mut [u8]) -> Result<
 }
 
 // Reads a file that was opened, if it was. (Apart from `read_file`, and a match in place of `map_err` with `?`: so a clause can say
-// that what wasn't opened is an error, after no byte.)
+// that what wasn't opened is an error.)
 fn read_opened<R: std::io::Read + Drop>(
     file: Result<R, Error>,
     buffer: &mut [u8],

@@ -4,6 +4,7 @@ use std::fmt;
 use std::fmt::Write;
 use std::io::Error;
 
+// The longest text that is said of a failure.
 const ROOM: usize = 320;
 
 // Its text, as much of it as there is room for.

@@ -121,7 +121,8 @@ const KINDS: [CallKind; 6] = [
     CallKind::Lock,
 ];
 
-// The kind of the call that a word names.
+// The kind of the call that a word names. (Kinds of record are found by their names in the same way, by sheet_table: kinds and names
+// are all that differs, and the search is one chain.)
 fn kind_of(word: &[u8]) -> Option<CallKind>
     ensures { result ≡ kind_of word.now }
 {

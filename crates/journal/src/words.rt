@@ -4,7 +4,8 @@ ghost use Rattle.std.specs.Iterator.{YieldsFirstBy, item_count};
 ghost use Rattle.journal.specs.Words.{is_blank, words};
 ghost use Rattle.journal.specs.Workers.Left.{words_left};
 
-// The words of what is left of a line.
+// The words of what is left of a line. (By hand, as text's `Pieces`: what `split` and `filter` give has the types of two closures,
+// over which all that takes words would be generic.)
 #[derive(Drop)]
 pub(super) struct Words<'a> {
     rest: &'a [u8],

@@ -37,7 +37,7 @@ impl Reserves<'_> {
             + sum_of(&new_use[row..row_end])
     }
 
-    // What every holder holds. (By place: what a zip of `iter_mut` lends is lost to the proof.)
+    // What every holder holds. (By the holder's number, for which `held_by` asks.)
     fn fill_held(self, held: &mut [u64])
         requires { length held.old ≡ self.read.holders }
         ensures { let r = self.entry in held.new
@@ -70,7 +70,8 @@ impl Reserves<'_> {
     }
 }
 
-// Step 7: held and Step 5 share together, for every holder. (By place, as `fill_held`.)
+// Step 7: held and Step 5 share together, for every holder. (By place: what a zip of `iter_mut` lends is lost to the
+// proof.)
 fn fill_totals(held: &[u64], shares: &[u64], totals: &mut [u64])
     requires { (length totals.old ≤ length held.now) × (length totals.old ≤ length shares.now)
         × ((h : ℕ) → h < length totals.old → at held.now h + at shares.now h ≤ most_total_kw) }

@@ -26,7 +26,8 @@ pub fn open(sheet: &[u8], state: &mut [u32]) -> Result<Granted, Refusal>
 }
 
 // Opens the year and keeps the Load Share Quantities of Step 2, which no word of the state has: writes them over the first
-// numbers of a row, one for each holder. A refusal leaves the row as it was.
+// numbers of a row, one for each holder. A refusal leaves the row as it was. (Lent: an answer that has them
+// too would be taken apart by `open`.)
 pub fn open_with_quantities(
     sheet: &[u8],
     state: &mut [u32],

@@ -1,5 +1,5 @@
-// Program `post`: a sheet on standard input, its posting on standard output (docs/RULES.md, "Beside the year"). Here
-// it is run on the sheet of case i.
+// Program `post`: a sheet on standard input, its posting on standard output (docs/RULES.md, "Beside the year"). Its
+// test runs it on the sheet of case i, crates/post/stdin.
 #![tactic(auto)]
 
 use base::limits::MOST_SHEET_BYTES;
@@ -10,7 +10,7 @@ use std::io;
 const SHEET_ROOM: usize = MOST_SHEET_BYTES + 1;
 
 // Reads a sheet from standard input and prints its posting, or `R` and the number of its refusal. Where it can't
-// be read or printed, standard error says so.
+// be read or printed, standard error says so. (Without the system's reason: its two lines are held by tests/programs.)
 fn main(rt: HostRuntime) {
     let mut sheet = [0u8; SHEET_ROOM];
     let Ok(count) = input::read_whole(&mut rt.stdin(), &mut sheet) else {

@@ -13,7 +13,7 @@ use base::limits::{MOST_HOLDERS, STATE_WORDS};
 use base::refusals::Refusal;
 use rows::NUMBERS;
 
-// Posts a sheet: T and the numbers of its lines, a row for each figure, or its refusal.
+// Posts a sheet: T and the numbers of its lines, a row for each figure, or its refusal. (The lines are lent, as C lends them.)
 pub fn post(sheet: &[u8], lines: &mut [u64; NUMBERS]) -> Result<Granted, Refusal>
     ensures { let p = posted sheet.now lines.old in
         (answer_of result ≡ p.answer) × (lines.new ≡ p.lines) }

@@ -44,7 +44,8 @@ fn fill_row<F: Fn(usize) -> u64>(lines: &mut [u64; NUMBERS], row: usize, count: 
     }
 }
 
-// Limit, outside, E, P, N and unassigned of each intertie.
+// Limit, outside, E, P, N and unassigned of each intertie. (I and H as parameters, with their ranges: a struct of the state
+// and both would be made for two calls.)
 pub(super) fn intertie_lines(
     state: &[u32; STATE_WORDS],
     interties: usize,

@@ -78,7 +78,7 @@ fn put_lines(
     }
 }
 
-// Such a line.
+// Such a line. (Its parts one by one: it is apart for its clause alone.)
 fn put_one(
     letter: u8,
     first: usize,

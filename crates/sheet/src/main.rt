@@ -34,7 +34,8 @@ fn main(rt: HostRuntime) {
     );
 }
 
-// Text on standard input becomes a sheet on standard output.
+// Text on standard input becomes a sheet on standard output. (Here and below a failure is said where it is met: an enum of them would
+// be taken apart at once in `main`.)
 fn convert_input(stdin: &mut impl Read, stdout: &impl Print, stderr: &impl Print) {
     let mut text = [0u8; TEXT_ROOM];
     match input::read_whole(stdin, &mut text) {

@@ -18,6 +18,7 @@ pub enum Fault {
     TooManyRecords,
 }
 
+// (Not one with journal's: each text has faults of its own.)
 impl From<NumberError> for Fault {
     ghost from_gives = { λ error fault. fault ≡ fault_of error };
 

@@ -49,8 +49,8 @@ fn kind_in(field: &[u8]) -> Result<u32, NumberError>
     }
 }
 
-// Reads the fields that are left, from a column on, and no field more. (Matches, here and below, where `map_err` with `?` would
-// stand: what its closure gives is lost to the proof.)
+// Reads the fields that are left, from a column on, and no field more. (Matches, here and below: `map_err` with `?` was tried in
+// journal's `check`, and what its closure gives is lost to the proof. By place, by which the column is counted too.)
 fn read_numbers<const N: usize>(
     fields: &mut Pieces,
     column: usize,
@@ -87,7 +87,7 @@ fn read_numbers<const N: usize>(
     }
 }
 
-// A key from fields within their widths.
+// A key from fields within their widths. (A function for its clause: so the fields aren't cut.)
 fn pack(key: Key) -> u32
     requires { (key.kind < key_kinds) × (key.holder < key_holders) × (key.intertie < key_interties)
         × (key.rank < key_ranks) × (key.years < key_years) }

@@ -28,7 +28,8 @@ const KINDS: [Kind; 6] = [
     Kind::NewUseCommitment,
 ];
 
-// The kind that a field names.
+// The kind that a field names. (Kinds of call are found in the same way, by journal: kinds and names are all that differs, and the
+// search is one chain.)
 pub(crate) fn named(field: &[u8]) -> Option<Kind>
     ensures { result ≡ named field.now }
 {

@@ -43,7 +43,8 @@ struct Sheet<'a> {
 }
 
 impl Sheet<'_> {
-    // Steps 2 to 4b, over rows that have a number for each intertie and for each holder; answers T.
+    // Steps 2 to 4b, over rows that have a number for each intertie and for each holder; answers T. (Here and below the lengths of
+    // these rows stand in each contract: they are written in turn, and a struct of lent rows would be taken apart at each step.)
     fn steps_2_to_4(
         self,
         quantities: &mut [u64],

@@ -16,7 +16,8 @@ use state::layout;
 use state::layout::ROW_WORDS;
 use std::marker::Model;
 
-// Writes each holder's weight. Does nothing where the state is under 16,000 words or has over 32 holders.
+// Writes each holder's weight. Does nothing where the state is under 16,000 words or has over 32 holders. (And says
+// no error: a closing has tested the state.)
 pub fn weigh(state: &[u32], weights: &mut [u64; MOST_HOLDERS])
     ensures { weights.new ≡ weighed state.now weights.old }
 {
@@ -68,8 +69,8 @@ impl Holders<'_> {
         self.count
     }
 
-    // A holder's load share. (By an index, since the sum over a mask's sellers reads one for each holder; `sellers`, read once a holder,
-    // by the state's own reader.)
+    // A holder's load share. (By an index, which tests no place: the sum over a mask's sellers reads one for each holder. `sellers` is
+    // read once a holder, by the state's own reader.)
     fn load_share(&self, holder: u32) -> u32
         requires { holder < holders self.now }
         ensures { result ≡ load_share_of self.now holder }

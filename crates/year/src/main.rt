@@ -34,26 +34,21 @@ const JOURNAL_ROOM: usize = MOST_JOURNAL_BYTES + 1;
 
 // Runs the year of the files that the arguments name.
 fn main(rt: HostRuntime) {
-    let mut sheet = [0u8; SHEET_ROOM];
-    let mut text = [0u8; JOURNAL_ROOM];
-    let mut calls = [0u32; CALLS_WORDS];
-    if let Err(failure) = run_files(&rt, &mut sheet, &mut text, &mut calls) {
+    if let Err(failure) = run_files(&rt) {
         failure.report(&rt, &rt.stderr());
     }
 }
 
 // Reads both files whole, and then runs the calls on the sheet.
-fn run_files<R: Env + Files + Print>(
-    rt: &R,
-    sheet: &mut [u8; SHEET_ROOM],
-    text: &mut [u8; JOURNAL_ROOM],
-    words: &mut [u32; CALLS_WORDS],
-) -> Result<(), Failure> {
+fn run_files<R: Env + Files + Print>(rt: &R) -> Result<(), Failure> {
     if !has_argument(rt, JOURNAL) || has_argument(rt, NEXT_SHEET + 1) {
         return Err(Failure::Usage);
     }
-    let sheet = files::read_argument(rt, SHEET, sheet)?;
-    let calls = read_calls(rt, text, words)?;
+    let mut sheet = [0u8; SHEET_ROOM];
+    let mut text = [0u8; JOURNAL_ROOM];
+    let mut words = [0u32; CALLS_WORDS];
+    let sheet = files::read_argument(rt, SHEET, &mut sheet)?;
+    let calls = read_calls(rt, &mut text, &mut words)?;
     if MOST_SHEET_BYTES < sheet.len() {
         return Err(Failure::TooLongSheet);
     }
@@ -85,7 +80,8 @@ fn run_list<R: Env + Files + Print>(rt: &R, sheet: &[u8], calls: Calls<'_>) -> R
     Ok(())
 }
 
-// Opens the sheet, runs the calls and prints the year, or the refusal of the sheet.
+// Opens the sheet, runs the calls and prints the year, or the refusal of the sheet. (Standard output and the text's room are two, here
+// and below: a struct of both would be lent again at each call.)
 fn print_year(
     stdout: &impl Print,
     sheet: &[u8],

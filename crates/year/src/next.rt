@@ -25,7 +25,7 @@ pub(super) fn write_next<R: Env + Files>(
 }
 
 // The sheet that bytes begin with: its 12 + 8·K bytes, or as many of them as there are. (Its length is read back from its
-// bytes: carry writes into an output that is lent, as C lends it.)
+// bytes: carry answers kW and passes, as each call does for C, and no length.)
 #[tactic(auto, using(lists::proofs::EncodedLaws::take_most))]
 fn sheet_in(bytes: &[u8]) -> &[u8]
     ensures { let b = bytes.now in

@@ -34,6 +34,7 @@ impl Calls<'_> {
         ensures { let calls = self.entry in let s = state.old in let a = answers.old in
             OnOk result (YearRan calls.words.now s a calls.count state.new answers.new) }
     {
+        // (Twice: what a field shows is lent again only by a variable.)
         let words = self.words;
         let words = &words[..];
         let mut first = 0;
