@@ -6,8 +6,9 @@ ghost use Rattle.base.specs.Numbered.{Decodes};
 
 use crate::numbered::Unnamed;
 
-// The kinds of record by their numbers. (`number` and `try_from` are written here, in stages.rt and in encoding.rt alike: an
-// impl can't come from a macro of our own, and no trait can give an enum its `TryFrom`.)
+// The kinds of record by their numbers. (`number` and `try_from` are written here, in stages.rt and in encoding.rt alike, and
+// `number` in refusals.rt: an impl can't come from a macro of our own, and no trait can give an enum its `TryFrom`. `number` and not
+// `From` for u32, since `kind.number()` says what the number is, where `u32::from(kind)` says its width.)
 #[derive(Clone, Copy, Debug, PartialEq, Eq)]
 pub enum Kind {
     // Limit (Maximum Import Capability) of an intertie.
