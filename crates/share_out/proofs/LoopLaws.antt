@@ -19,7 +19,7 @@ use Rattle.share_out.specs.Turn.{in_turn}
 use Rattle.share_out.specs.Pass.{unmet, is_open, open_weight, open_weights, by_weight, one_each, unweighted, pass_kw, pass_total, pass_grants}
 use Rattle.share_out.specs.Rule.{run_passes, claimed, shared}
 use Rattle.share_out.specs.Workers.Fit.{AtMost, Weighed, Rated, Serving, Raised, Completed, Ready, none, single}
-use Rattle.share_out.proofs.PassLaws.{open-weight-part, open-weight-after, open_is, open_weight-most, by_weight-is, by_weight-within, pass_total-within, pass_total-pos, pass_total-last}
+use Rattle.share_out.proofs.PassLaws.{open-weight-first, open-weight-part, open-weight-after, open_is, open_weight-most, by_weight-is, by_weight-within, pass_total-within, pass_total-pos, pass_total-last}
 use Rattle.share_out.proofs.RunLaws.{Running, at_none, running-first, running-next, run-empty, run-pass}
 use Rattle.share_out.proofs.Promise.{shared-passes}
 
@@ -107,12 +107,12 @@ noted-weights claims weights g before noted all i few room s l =
     }
 
 -- before anything is granted, the unmet claim is the claim
-pub first-is : (claims weights : List ℕ) (i x : ℕ) → i < length claims → x ≡ pick (ltb 0 (at claims i) && ltb 0 (at weights i)) (at weights i) 0 →
+pub first-is : (claims weights : List ℕ) (i x : ℕ) → i < length claims → x ≡ pick (ltb 0 (at claims i)) (at weights i) 0 →
     x ≡ open_weight claims weights (none claims) i
 unfolding is_open
 first-is claims weights i x l e =
     let same : at claims i ≡ unmet claims (none claims) i = omega (arith, at_none claims weights i l) in
-    e ∙ ap (λ (u : ℕ). pick (ltb 0 u && ltb 0 (at weights i)) (at weights i) 0) same
+    e ∙ ap (λ (u : ℕ). pick (ltb 0 u) (at weights i) 0) same ∙ open-weight-first (unmet claims (none claims) i) (at weights i)
 
 -- grants raised by nothing are as they were
 raised-none : (kw : ℕ → ℕ) (g after : List ℕ) (n given : ℕ) → length g ≡ n → Raised given after n g kw → given ≡ 0 → after ≡ g

@@ -37,6 +37,14 @@ open-weight-unmet u w h =
 pub open-weight-met : (unmetKw weight : ℕ) → unmetKw ≤ 0 → pick (ltb 0 unmetKw && ltb 0 weight) weight 0 ≡ 0
 open-weight-met u w h = rw (le-ltb 0 u h)
 
+-- which it brings before anything is granted, where its claim is above 0
+pub open-weight-first : (unmetKw weight : ℕ) → pick (ltb 0 unmetKw) weight 0 ≡ pick (ltb 0 unmetKw && ltb 0 weight) weight 0
+open-weight-first u w =
+    elim (dec_lt 0 u) [
+      | yes some ↦ ap (λ b. pick b w 0) (lt-ltb 0 u some) ∙ sym (open-weight-unmet u w some)
+      | no none ↦ rw (le-ltb 0 u (omega arith)) refl
+    ]
+
 -- the part by weight of the weight that a holder brings into W is that of its weight: with no unmet claim both are 0
 pub open-weight-part : (left weight all unmetKw : ℕ) →
     min unmetKw (left * pick (ltb 0 unmetKw && ltb 0 weight) weight 0 / all) ≡ min unmetKw (left * weight / all)

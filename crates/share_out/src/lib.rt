@@ -31,8 +31,8 @@ fn claim_bits(claims: &[u64]) -> u64
     claims.iter().fold(0, |bits, claim| bits | *claim)
 }
 
-// The bits of a weight and of its lower half raised so that one in range stays below 2 to the power 27. (The lower half, so that
-// raising it never wraps.)
+// The bits of a weight together with those of the sum of its lower 32 bits and RAISE: below 2 to the power 27 exactly where the
+// weight is in range. (Its lower 32 bits alone, so that the sum never wraps.)
 #[tactic(auto, unfolding(crate::specs::Workers::Fit::raised))]
 fn raised(weight: u64) -> u64
     ensures { result ≡ raised weight }
@@ -73,11 +73,11 @@ fn unfit_numbers(pool: u64, claims: &[u64], weights: &[u64]) -> bool
     !(vectors::all_within(claims, MOST_CLAIM_KW) & vectors::all_within(weights, MOST_LOAD_SHARE))
 }
 
-// The weight that a holder brings into W: its own if it is open.
-fn open_weight(unmet: u64, weight: u64) -> u64
-    ensures { result ≡ pick (ltb 0 unmet && ltb 0 weight) weight 0 }
+// The weight that a holder brings into W after its part: none once the part meets its unmet claim.
+fn weight_after(part: u64, unmet: u64, weight: u64) -> u64
+    ensures { result ≡ pick (ltb part unmet) weight 0 }
 {
-    if 0 < unmet { weight } else { 0 }
+    if part < unmet { weight } else { 0 }
 }
 
 // Before anything is granted, notes the weight that each holder brings into W; hands back W, the open weights' sum. (By place,
@@ -89,7 +89,7 @@ fn weigh_open(claims: &[u64], weights: &[u64], open_weights: &mut [u64; MOST_HOL
 {
     let mut all = 0;
     for (i, claim) in claims.iter().enumerate() {
-        let weight = open_weight(*claim, weights[i]);
+        let weight = weight_after(0, *claim, weights[i]);
         open_weights[i] = weight;
         all += weight;
     }
@@ -128,13 +128,6 @@ fn portion(left: u64, weight: u64, all: u64, rate: u64) -> u64
         return kw;
     }
     exact_portion(left, weight, all)
-}
-
-// The weight that a holder brings into W after its part: none once the part meets its unmet claim.
-fn weight_after(part: u64, unmet: u64, weight: u64) -> u64
-    ensures { result ≡ pick (ltb part unmet) weight 0 }
-{
-    if part < unmet { weight } else { 0 }
 }
 
 // Serves holders in turn, lowest number first, until the pool is empty: each gets what it wants, by its unmet claim and the
@@ -189,7 +182,7 @@ fn complete(
 }
 
 // Shares the pool out in passes until it is empty; hands back how many were made. From pass to pass it keeps W
-// (`all`) and the weight that each holder brings into it, which is 0 once its claim is met. (A loop: what ends it is an empty pool.)
+// (`all`) and the weight that each holder brings into it, which is 0 once its claim is met. (By place, as in `serve_in_turn`.)
 fn by_passes(pool: u64, claims: &[u64], weights: &[u64], grants: &mut [u64]) -> u64
     requires { Ready pool claims.now weights.now grants.old }
     ensures { shared pool claims.now weights.now
@@ -199,10 +192,7 @@ fn by_passes(pool: u64, claims: &[u64], weights: &[u64], grants: &mut [u64]) -> 
     let mut all = weigh_open(claims, weights, &mut open_weights);
     let mut left = pool;
     let mut made = 0;
-    let passes = 'passes: loop {
-        if left == 0 {
-            break 'passes made;
-        }
+    while 0 < left {
         let rate = rate_of(left, all);
         let mut given = 0;
         let mut still_open = 0;
@@ -219,8 +209,8 @@ fn by_passes(pool: u64, claims: &[u64], weights: &[u64], grants: &mut [u64]) -> 
         left -= complete(given, left, all, claims, &open_weights, grants);
         all = still_open;
         made += 1;
-    };
-    passes
+    }
+    made
 }
 
 // Shares out what refusals 5 and 9 let pass: each claim whole where they fit, else by passes.

@@ -15,14 +15,14 @@ overflow_add-all c = let a = c.args in
       p.few,
       noted-most _ _ _ 100000000 _ _ c.loop-i.i _
           (λ j l. open_weight-most a.claims.now a.weights.now 100000000 (none a.claims.now) j (p.ranged j l)) c.loop-i.invariant c.loop-i-test.true
-          (first-is a.claims.now a.weights.now c.loop-i.i _ c.loop-i-test.true c.open_weight-weight.ensures),
+          (first-is a.claims.now a.weights.now c.loop-i.i _ c.loop-i-test.true c.weight_after-weight.ensures),
     )
 
 pub loop-i-preserved : goal.loop-i-preserved
 loop-i-preserved c =
     let a = c.args in
     noted-next _ _ _ _ _ c.loop-i.i _ c.loop-i.invariant c.loop-i-test.true
-    (first-is a.claims.now a.weights.now c.loop-i.i _ c.loop-i-test.true c.open_weight-weight.ensures)
+    (first-is a.claims.now a.weights.now c.loop-i.i _ c.loop-i-test.true c.weight_after-weight.ensures)
 
 pub returns : goal.returns
 returns c =

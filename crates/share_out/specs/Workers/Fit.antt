@@ -27,7 +27,7 @@ Covered n f bits = (i : ℕ) → i < n → f i ≤ bits
 abbrev pub above_weights : ℕ
 above_weights = 134217728
 
--- the bits of a weight and of the weight, its lower 32 bits, raised so that one in range stays below 2 ^ 27
+-- the bits of a weight together with those of the sum of its lower 32 bits and what raises 100,000,000 to the last number below 2 ^ 27
 unfoldable pub raised : ℕ → ℕ
 raised weight = bit_or weight (weight % 4294967296 + 34217727)
 
