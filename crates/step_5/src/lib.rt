@@ -146,8 +146,8 @@ impl Holders<'_> {
 
 // Writes the Step 5 share of each holder, who holds `held` kW by Steps 3 and 4, into the first places of
 // `shares`. Answers false and writes nothing where the lists are of unlike length or over 32, `shares`
-// is shorter, T or a holder's kW is above 2,880,000,000 or a load share above 100,000,000. (A bool, since an error of one
-// kind would say no more.)
+// is shorter, T or a holder's kW is above 2,880,000,000 or a load share above 100,000,000. (A bool for lengths and ranges
+// alike: the rules have no refusal of Step 5, and its one caller, an opening, gives it what fits and doesn't read the answer.)
 pub fn step_5_shares(total_kw: u64, held: &[u64], loads: &[u64], shares: &mut [u64]) -> bool
     ensures { let made = step5 total_kw held.now loads.now shares.old in
         (result ≡ made.fit) × (shares.new ≡ made.output) }
