@@ -22,7 +22,7 @@ use Rattle.base.proofs.WordLaws.{take-tab, length-tab, at-tab, fill-whole}
 use Rattle.share_out.specs.Rule.{Outcome, shared, unfit_lengths, unfit_numbers, shared_answer, share_out}
 use Rattle.intertie_shares.specs.Pairs.{pair_at, at_pair, column, fill_column, fill_table}
 use Rattle.intertie_shares.specs.Rule.{among_holders, share_out_on, grant_on, kw_over, passes_over, share_out_each}
-use Rattle.intertie_shares.specs.Workers.Fit.{Sized, InTable, SharedOn}
+use Rattle.intertie_shares.specs.Workers.Fit.{Sized, SharedOn}
 use Rattle.intertie_shares.proofs.PairLaws.{fill_column-zero, fill_column-more, fill_column-same, length-fill_column, fill_table-zero, fill_table-more}
 use Rattle.intertie_shares.proofs.HolderLaws.{Ranged, among-fits}
 use Rattle.intertie_shares.proofs.IntertieLaws.{kept_on, kw-most, passes-most}
@@ -104,16 +104,16 @@ shared-on i H pools claims weights claimed before output after-it grants after r
     }
 
 -- the word of holder h on intertie i in its row of a table
-pub word-in_row : (i H h : ℕ) (rows : List (List ℕ)) (claims : List ℕ) → rows ≡ first_chunks 48 (length claims / 48) claims → InTable i H claims → h < H →
-    at (get_or rows h []) i ≡ at_pair claims h i
-word-in_row i H h rows claims e t l =
-    ap (λ r. at (get_or r h []) i) e ∙ at-row 48 (length claims / 48) h i claims (omega (arith, t.holders, t.whole)) t.intertie
+pub word-in_row : (I H i h : ℕ) (rows : List (List ℕ)) (claims : List ℕ) → rows ≡ first_chunks 48 (length claims / 48) claims →
+    1536 ≤ length claims → I ≤ 48 → H ≤ 32 → i < I → h < H → at (get_or rows h []) i ≡ at_pair claims h i
+word-in_row I H i h rows claims e whole few some low l =
+    ap (λ r. at (get_or r h []) i) e ∙ at-row 48 (length claims / 48) h i claims (omega arith) (omega arith)
 
 -- and in a row of the first H holders
-pub claim-in_row : (i H h : ℕ) (rows : List (List ℕ)) (claims : List ℕ) → rows ≡ first_chunks 48 (length claims / 48) claims → InTable i H claims → h < H →
-    at (get_or (take H rows) h []) i ≡ at_pair claims h i
-claim-in_row i H h rows claims e t l =
-    ap (λ row. at row i) (get_or-take H rows h [] l) ∙ word-in_row i H h rows claims e t l
+pub claim-in_row : (I H i h : ℕ) (rows : List (List ℕ)) (claims : List ℕ) → rows ≡ first_chunks 48 (length claims / 48) claims →
+    1536 ≤ length claims → I ≤ 48 → H ≤ 32 → i < I → h < H → at (get_or (take H rows) h []) i ≡ at_pair claims h i
+claim-in_row I H i h rows claims e whole few some low l =
+    ap (λ row. at row i) (get_or-take H rows h [] l) ∙ word-in_row I H i h rows claims e whole few some low l
 
 -- after h claims: what they leave of the pool
 pub record Claiming (pool : ℕ) (f : ℕ → ℕ) (left h : ℕ) : Type 0 where
@@ -188,6 +188,14 @@ module _ (I H : ℕ) (pools claims weights first : List ℕ) where
       let kw : k ≤ 960000000 = omega (arith, s.inside, s.kw, kw-most H (at pools) (at_pair claims) (at weights) i) in
       (kw, omega (arith, s.kw, s.passes, passes-most H (at pools) (at_pair claims) (at weights) i))
 
+  -- and those with what any one intertie's share-out grants within 49
+  pub over-fits : (grants after more : List ℕ) (k p i j : ℕ) (r : Granted) → Over I H pools claims weights first grants k p i → I ≤ 48 →
+      SharedOn j H pools claims weights more r after → (k + r.kw ≤ 980000000) × (p + r.passes ≤ 980000000)
+  over-fits grants after more k p i j r s few d =
+      let so-far = over-small grants k p i s few in
+      let one = kept_on H (at pools) (at_pair claims) (at weights) j in
+      (omega (arith, so-far.0, d.kw, one.most), omega (arith, so-far.1, d.passes, one.counted, one.most))
+
   -- one intertie more
   module _ (grants after : List ℕ) (k p i : ℕ) (r : Granted) (s : Over I H pools claims weights first grants k p i) (l : i < I)
       (d : SharedOn i H pools claims weights grants r after) where
@@ -206,9 +214,6 @@ module _ (I H : ℕ) (pools claims weights first : List ℕ) where
           passes = passes-next;
           written = d.column ∙ rw s.written (sym (fill_table-more H (grant_on H (at pools) (at_pair claims) (at weights)) first i));
         }
-
-    pub over-fits : I ≤ 48 → (k + r.kw ≤ 960000000) × (p + r.passes ≤ 960000000)
-    over-fits few = over-small after (k + r.kw) (p + r.passes) (i + 1) over-next few
 
   -- after all interties
   pub over-all : (grants : List ℕ) (k p i : ℕ) → Over I H pools claims weights first grants k p i → I ≤ i →

@@ -11,7 +11,7 @@ ghost use Rattle.base.specs.Sums.{sum_to, all_to};
 ghost use Rattle.base.specs.Words.{at, tab};
 ghost use Rattle.intertie_shares.specs.Pairs.{at_pair, column, fill_column};
 ghost use Rattle.intertie_shares.specs.Rule.{unfit_sizes, share_out_each};
-ghost use Rattle.intertie_shares.specs.Workers.Fit.{InTable, SharedOn};
+ghost use Rattle.intertie_shares.specs.Workers.Fit.{SharedOn};
 
 use base::limits::{MOST_HOLDERS, MOST_INTERTIES, MOST_KW, MOST_LOAD_SHARE, MOST_PAIRS};
 use base::refusals::Refusal;
@@ -35,17 +35,6 @@ fn unfit_sizes(
                 | ((weights < holders) | ((claims < MOST_PAIRS) | (grants < MOST_PAIRS)))))
 }
 
-// Gathers the holders' words on an intertie of a table.
-fn gather(table: &[u64], intertie: usize, words: &mut [u64])
-    requires { InTable intertie (length words.old) table.now }
-    ensures { words.new ≡ column table.now (length words.old) intertie }
-{
-    let (rows, _) = table.as_chunks::<MOST_INTERTIES>();
-    for (h, word) in words.iter_mut().enumerate() {
-        *word = rows[h][intertie];
-    }
-}
-
 // What a share-out granted. One that was refused has left its output as it was: it is cleared, and grants nothing.
 fn settle(made: Result<Granted, Refusal>, output: &mut [u64]) -> Granted
     ensures { let answer = answer_of made in let before = output.old in
@@ -63,38 +52,12 @@ fn settle(made: Result<Granted, Refusal>, output: &mut [u64]) -> Granted
 
 // Scatters the holders' words over an intertie of a table. (By place: of `as_chunks_mut` nothing is said of what the slice ends as.)
 fn scatter(words: &[u64], intertie: usize, table: &mut [u64])
-    requires { InTable intertie (length words.now) table.old }
+    requires { (intertie < most_interties) × (length words.now ≤ most_holders) × (most_pairs ≤ length table.old) }
     ensures { let words = words.now in
         table.new ≡ fill_column intertie (length words) (at words) table.old }
 {
     for (h, word) in words.iter().enumerate() {
         table[MOST_INTERTIES * h + intertie] = *word;
-    }
-}
-
-// The claims on an intertie together, or none where they exceed its pool.
-fn claimed_on(pool: u64, claims: &[u64], intertie: usize, holders: usize) -> Option<u64>
-    requires { InTable intertie holders claims.now }
-    ensures { let claimed = sum_to holders (λ h. at_pair claims.now h intertie) in
-        SomeIff result (claimed ≤ pool) claimed }
-{
-    let (rows, _) = claims.as_chunks::<MOST_INTERTIES>();
-    let mut left = pool;
-    for row in &rows[..holders] {
-        left = left.checked_sub(row[intertie])?;
-    }
-    Some(pool - left)
-}
-
-// Grants each claim on an intertie whole. (By place, as in `scatter`.)
-fn grant_claims(claims: &[u64], intertie: usize, holders: usize, grants: &mut [u64])
-    requires { InTable intertie holders claims.now × InTable intertie holders grants.old }
-    ensures { let claim = at_pair claims.now in
-        grants.new ≡ fill_column intertie holders (λ h. claim h intertie) grants.old }
-{
-    let (rows, _) = claims.as_chunks::<MOST_INTERTIES>();
-    for (h, row) in rows[..holders].iter().enumerate() {
-        grants[MOST_INTERTIES * h + intertie] = row[intertie];
     }
 }
 
@@ -117,6 +80,44 @@ struct Claims<'a> {
 }
 
 impl Claims<'_> {
+    // Gathers what the holders claim on an intertie. (Rows by place: what a zip of `iter_mut` lends is lost to the proof.)
+    fn gather(self, intertie: usize, claimed: &mut [u64])
+        requires { (intertie < self.interties) × (length claimed.old ≡ self.holders) }
+        ensures { claimed.new ≡ column self.entry.claims.now self.entry.holders intertie }
+    {
+        let (rows, _) = self.claims.as_chunks::<MOST_INTERTIES>();
+        for (h, claim) in claimed.iter_mut().enumerate() {
+            *claim = rows[h][intertie];
+        }
+    }
+
+    // The claims on an intertie together, or none where they exceed its pool.
+    fn claimed_on(self, intertie: usize) -> Option<u64>
+        requires { intertie < self.interties }
+        ensures { let claimed = sum_to self.entry.holders (λ h. at_pair self.entry.claims.now h intertie) in
+            SomeIff result (claimed ≤ at self.entry.pools.now intertie) claimed }
+    {
+        let (rows, _) = self.claims.as_chunks::<MOST_INTERTIES>();
+        let pool = self.pools[intertie];
+        let mut left = pool;
+        for row in &rows[..self.holders] {
+            left = left.checked_sub(row[intertie])?;
+        }
+        Some(pool - left)
+    }
+
+    // Grants each claim on an intertie whole. (By place, as in `scatter`.)
+    fn grant_claims(self, intertie: usize, grants: &mut [u64])
+        requires { (intertie < self.interties) × (most_pairs ≤ length grants.old) }
+        ensures { let claim = at_pair self.entry.claims.now in
+            grants.new ≡ fill_column intertie self.entry.holders (λ h. claim h intertie) grants.old }
+    {
+        let (rows, _) = self.claims.as_chunks::<MOST_INTERTIES>();
+        for (h, row) in rows[..self.holders].iter().enumerate() {
+            grants[MOST_INTERTIES * h + intertie] = row[intertie];
+        }
+    }
+
     // Shares out on one intertie by the share-out; claimed and output are room for what its holders claim and get. (Lent, since
     // arrays of its own would be cleared on each intertie; and apart, since a struct of both would be taken apart here at once.)
     fn share_out_gathered(
@@ -132,7 +133,7 @@ impl Claims<'_> {
     {
         let claimed = &mut claimed[..self.holders];
         let output = &mut output[..self.holders];
-        gather(self.claims, intertie, claimed);
+        self.gather(intertie, claimed);
         let weights = &self.weights[..self.holders];
         let made = share_out::share_out(self.pools[intertie], claimed, weights, output);
         let granted = settle(made, output);
@@ -153,10 +154,9 @@ impl Claims<'_> {
         ensures { SharedOn intertie self.entry.holders self.entry.pools.now self.entry.claims.now
             self.entry.weights.now grants.old result grants.new }
     {
-        let pool = self.pools[intertie];
-        if self.weighable & (pool <= MOST_KW) {
-            if let Some(kw) = claimed_on(pool, self.claims, intertie, self.holders) {
-                grant_claims(self.claims, intertie, self.holders, grants);
+        if self.weighable & (self.pools[intertie] <= MOST_KW) {
+            if let Some(kw) = self.claimed_on(intertie) {
+                self.grant_claims(intertie, grants);
                 return Granted { kw, passes: 0 };
             }
         }

@@ -1,5 +1,5 @@
 -- What the workers are handed once refusal 5 is decided, and what one intertie's share-out leaves.
-use Rattle.std.specs.Prelude.{ℕ, ◌≤◌, ◌<◌, ◌≡◌, List, length}
+use Rattle.std.specs.Prelude.{ℕ, ◌≤◌, ◌≡◌, List, length}
 use Rattle.base.specs.Limits.{most_interties, most_holders, most_pairs}
 use Rattle.base.specs.Words.{at}
 use Rattle.base.specs.declared.Granted.{Granted}
@@ -14,12 +14,6 @@ pub record Sized (I H : ℕ) (pools claims weights grants : List ℕ) : Type 0 w
   pub weighed : H ≤ length weights
   pub claimed : most_pairs ≤ length claims
   pub room : most_pairs ≤ length grants
-
--- a column of at most 32 holders that lies in a table of the pairs
-pub record InTable (i H : ℕ) (table : List ℕ) : Type 0 where
-  pub intertie : i < most_interties
-  pub holders : H ≤ most_holders
-  pub whole : most_pairs ≤ length table
 
 -- intertie i is shared out: r has the kW and the passes of the answer, and the table of grants has its column
 pub record SharedOn (i H : ℕ) (pools claims weights grants : List ℕ) (r : Granted) (after : List ℕ) : Type 0 where

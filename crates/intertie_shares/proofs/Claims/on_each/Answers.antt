@@ -9,14 +9,14 @@ pub overflow_add-kw : goal.overflow_add-kw
 overflow_add-kw c =
     omega (
       arith,
-      over-fits _ _ _ _ _ _ _ _ _ _ _ _ c.loop-i.invariant c.loop-i-test.true c.share_out_on-granted.ensures c.args.self.few_interties,
+      over-fits _ _ _ _ _ _ _ _ _ _ _ _ _ _ c.loop-i.invariant c.args.self.few_interties c.share_out_on-granted.ensures,
     )
 
 pub overflow_add-passes : goal.overflow_add-passes
 overflow_add-passes c =
     omega (
       arith,
-      over-fits _ _ _ _ _ _ _ _ _ _ _ _ c.loop-i.invariant c.loop-i-test.true c.share_out_on-granted.ensures c.args.self.few_interties,
+      over-fits _ _ _ _ _ _ _ _ _ _ _ _ _ _ c.loop-i.invariant c.args.self.few_interties c.share_out_on-granted.ensures,
     )
 
 pub loop-i-preserved : goal.loop-i-preserved

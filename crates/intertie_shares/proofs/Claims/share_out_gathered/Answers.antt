@@ -7,7 +7,6 @@ pub returns : goal.returns
 returns c =
     let given = c.args.self in
     let shared = c.share_out-made in
-    let claimed : length (take given.holders c.args.claimed.now) ≡ given.holders = search rules in
     let room : length (take given.holders c.args.output.now) ≡ given.holders = search rules in
-    shared-on _ _ _ _ _ _ _ _ _ _ _ _ _ given.weighed (rw claimed at c.gather.ensures) room
+    shared-on _ _ _ _ _ _ _ _ _ _ _ _ _ given.weighed c.gather.ensures room
     (shared.auto.output ∙ room) shared.ensures c.settle-granted.ensures c.scatter.ensures

@@ -9,6 +9,6 @@ pub returns-in-Some : goal.returns-in-Some
 returns-in-Some c =
     let given = c.args.self in
     let kw = at given.pools.now c.args.intertie in
-    let both = c.if-self-pool.true in
+    let both = c.if-self-intertie.true in
     met-on _ _ _ _ _ _ _ _ given.few_holders (leb-true kw 20000000 (and_right given.weighable (leb kw 20000000) both))
     (sym given.light ∙ and_left given.weighable (leb kw 20000000) both) c.in-Some.ensures c.grant_claims.ensures
