@@ -1,7 +1,6 @@
 // Steps 5 to 7: what each holder holds, its Step 5 share and its Step 7 total.
-ghost use Rattle.std.specs.Prelude.{◌≡◌, ℕ, ◌+◌, ◌≤◌, ◌<◌, length};
-ghost use Rattle.base.specs.Limits.{most_total_kw};
-ghost use Rattle.base.specs.Words.{at, tab};
+ghost use Rattle.std.specs.Prelude.{◌≡◌, ℕ, ◌<◌, length};
+ghost use Rattle.base.specs.Words.{tab};
 ghost use Rattle.opening.specs.Workers.Figures.{held_from, HeldGiven, HeldTaken};
 
 use base::limits::{MOST_HOLDERS, MOST_INTERTIES, MOST_PAIRS};
@@ -37,17 +36,6 @@ impl Reserves<'_> {
             + sum_of(&new_use[row..row_end])
     }
 
-    // What every holder holds. (By the holder's number, for which `held_by` asks.)
-    fn fill_held(self, held: &mut [u64])
-        requires { length held.old ≡ self.read.holders }
-        ensures { let r = self.entry in held.new
-            ≡ tab (length held.old) (held_from r.read.interties r.read.tables.now.kw r.pre_ra.now r.new_use.now) }
-    {
-        for (holder, kw) in held.iter_mut().enumerate() {
-            *kw = self.held_by(holder);
-        }
-    }
-
     // Steps 5 to 7: writes what each holder holds, its Step 5 share and its Step 7 total over the first words of three rows.
     // (Lent one by one: `pre_ra` and `new_use` of the same struct are read. Step 5 isn't refused: T and what is held are in range.)
     pub(super) fn steps_5_to_7(
@@ -64,21 +52,18 @@ impl Reserves<'_> {
         let shares = &mut shares[..self.read.holders];
         let kw = &self.read.tables.kw;
         let end = LOAD_SHARES + self.read.holders;
-        self.fill_held(held);
+        fill_by(held, |holder| self.held_by(holder));
         step_5::step_5_shares(self.total, held, &kw[LOAD_SHARES..end], shares);
-        fill_totals(held, shares, &mut totals[..self.read.holders]);
+        fill_by(&mut totals[..self.read.holders], |h| held[h] + shares[h]);
     }
 }
 
-// Step 7: held and Step 5 share together, for every holder. (By place: what a zip of `iter_mut` lends is lost to the
-// proof.)
-fn fill_totals(held: &[u64], shares: &[u64], totals: &mut [u64])
-    requires { (length totals.old ≤ length held.now) × (length totals.old ≤ length shares.now)
-        × ((h : ℕ) → h < length totals.old → at held.now h + at shares.now h ≤ most_total_kw) }
-    ensures { totals.new
-        ≡ tab (length totals.old) (λ (h : ℕ). at held.now h + at shares.now h) }
+// Fills a row by what a figure is in each place. (steps_2_to_4 has its own, beside which stands why.)
+fn fill_by<F: Fn(usize) -> u64>(row: &mut [u64], figure: F)
+    requires { (c : ℕ) → c < length row.old → F.pre figure c }
+    ensures { (f : ℕ → ℕ) → ((c r : ℕ) → c < length row.old → F.post figure c r → r ≡ f c) → row.new ≡ tab (length row.old) f }
 {
-    for (h, total) in totals.iter_mut().enumerate() {
-        *total = held[h] + shares[h];
+    for (c, number) in row.iter_mut().enumerate() {
+        *number = figure(c);
     }
 }

@@ -6,12 +6,12 @@ ghost use Rattle.steps.specs.Step4a.{pre_ra_claim};
 ghost use Rattle.steps_2_to_4.specs.Reserved.{inputs};
 ghost use Rattle.steps_2_to_4.specs.Workers.Vectors.{Pairs, kept_from};
 
-use super::{Sheet, vectors};
+use super::{Inputs, vectors};
 use base::limits::{MOST_INTERTIES, MOST_PAIRS};
 use base::vectors::left_of;
 use sheet_reading::tables::{EXISTING, HOLDER_INTERTIES, HOLDER_RANKS, NEW_USE, PRE_RA};
 
-impl Sheet<'_> {
+impl Inputs<'_> {
     // Step 4a: a claim is the part of Pre-RA kW above E at that pair. (By place: of `as_chunks_mut` nothing is said of what the
     // slice ends as.)
     pub(super) fn pre_ra_claims(self, claims: &mut [u64; MOST_PAIRS])

@@ -8,12 +8,12 @@ ghost use Rattle.steps_2_to_4.specs.Reserved.{inputs};
 ghost use Rattle.steps_2_to_4.specs.Workers.Vectors.{Pairs, kept_from, SharedOver};
 ghost use Rattle.steps_2_to_4.specs.Workers.Steps.{Granted};
 
-use super::Sheet;
+use super::Inputs;
 use base::limits::{MOST_INTERTIES, MOST_PAIRS};
 use base::vectors::take_off_each;
 use sheet_reading::tables::{EXISTING, HOLDER_INTERTIES};
 
-impl Sheet<'_> {
+impl Inputs<'_> {
     // Shares out the pool of each intertie over the claims there, with the holders' load shares. (Sizes that are asked for here
     // are not refused.)
     fn grant(self, pools: &[u64], claimed: &[u64; MOST_PAIRS], granted: &mut [u64; MOST_PAIRS])

@@ -18,7 +18,9 @@ use base::limits::{MOST_HOLDERS, MOST_INTERTIES, MOST_KW, MOST_LOAD_SHARE, MOST_
 use base::vectors::all_within;
 use sheet_reading::tables::{LOAD_SHARES, Read};
 
-// Whether sizes, limits and load shares are in range. (Not base's `sizes_in_range`, which asks for one of each.)
+// Whether sizes, limits and load shares are in range. (Not base's `sizes_in_range`, which asks for one of each. Opened_state has the
+// same line and ghost facts: a method of `Read` would be public, with a definition of its own, and what it answers would be taken
+// apart into these facts in both.)
 fn fit_tables(read: Read<'_>) -> bool
     ensures { let r = read.entry in result ≡ fit_tables r.tables.now.kw r.interties r.holders }
 {
@@ -30,9 +32,9 @@ fn fit_tables(read: Read<'_>) -> bool
     all_within(&kw[..read.interties], MOST_KW) & all_within(&kw[LOAD_SHARES..end], MOST_LOAD_SHARE)
 }
 
-// What Steps 2 to 4b are made over: what was read of a sheet, and the load share of each holder; all in range.
+// The inputs of Steps 2 to 4b: what was read of a sheet, and the load share of each holder; sizes, limits and load shares in range.
 #[derive(Clone, Copy)]
-struct Sheet<'a> {
+struct Inputs<'a> {
     read: Read<'a>,
     loads: &'a [u64],
     ghost few: { read.interties ≤ most_interties },
@@ -42,7 +44,7 @@ struct Sheet<'a> {
     ghost sized: { length loads.now ≡ read.holders },
 }
 
-impl Sheet<'_> {
+impl Inputs<'_> {
     // Steps 2 to 4b, over rows that have a number for each intertie and for each holder; answers T. (Here and below the lengths of
     // these rows stand in each contract: they are written in turn, and a struct of lent rows would be taken apart at each step.)
     fn steps_2_to_4(
@@ -89,11 +91,11 @@ pub fn reserve(
     }
     let kw = &read.tables.kw;
     let end = LOAD_SHARES + read.holders;
-    let sheet = Sheet {
+    let inputs = Inputs {
         read,
         loads: &kw[LOAD_SHARES..end],
     };
-    sheet.steps_2_to_4(
+    inputs.steps_2_to_4(
         &mut quantities[..read.holders],
         &mut unassigned[..read.interties],
         pre_ra,

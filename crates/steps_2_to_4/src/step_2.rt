@@ -1,11 +1,10 @@
 // Step 2: what is available on each intertie, T, and the Load Share Quantities.
-ghost use Rattle.std.specs.Prelude.{◌≡◌, ℕ, ◌*◌, ◌/◌, ◌≤◌, ◌<◌, length};
+ghost use Rattle.std.specs.Prelude.{◌≡◌, ◌*◌, ◌/◌, ◌≤◌, length};
 ghost use Rattle.base.specs.Limits.{most_total_kw, most_load_share};
-ghost use Rattle.base.specs.Words.{at, tab};
 ghost use Rattle.steps_2_to_4.specs.Reserved.{inputs};
 ghost use Rattle.steps_2_to_4.specs.Workers.Steps.{Available};
 
-use super::{Sheet, vectors};
+use super::{Inputs, vectors};
 use base::vectors::sum_of;
 use sheet_reading::tables::OUTSIDE;
 
@@ -17,19 +16,7 @@ fn quantity(total: u64, load: u64, all: u64) -> u64
     (total * load).checked_div(all).unwrap_or(0)
 }
 
-// The Load Share Quantities of the holders. (By place: what a zip of `iter_mut` lends is lost to the proof.)
-fn fill_quantities(total: u64, all: u64, loads: &[u64], quantities: &mut [u64])
-    requires { (total ≤ most_total_kw) × ((h : ℕ) → h < length loads.now → at loads.now h ≤ most_load_share)
-        × (length quantities.old ≡ length loads.now) }
-    ensures { quantities.new
-        ≡ tab (length quantities.old) (λ (h : ℕ). total * at loads.now h / all) }
-{
-    for (h, found) in quantities.iter_mut().enumerate() {
-        *found = quantity(total, loads[h], all);
-    }
-}
-
-impl Sheet<'_> {
+impl Inputs<'_> {
     // Step 2: what is available on each intertie and the Load Share Quantities; answers T.
     pub(super) fn step_2(self, pools: &mut [u64], quantities: &mut [u64]) -> u64
         requires { (length pools.old ≡ self.read.interties) × (length quantities.old ≡ self.read.holders) }
@@ -37,10 +24,11 @@ impl Sheet<'_> {
             Available y pools.new quantities.new result }
     {
         let kw = &self.read.tables.kw;
+        let loads = self.loads;
         vectors::differences(kw, &kw[OUTSIDE..], pools);
         let total = sum_of(pools);
-        let all = sum_of(self.loads);
-        fill_quantities(total, all, self.loads, quantities);
+        let all = sum_of(loads);
+        vectors::fill_by(quantities, |h| quantity(total, loads[h], all));
         total
     }
 }

@@ -9,11 +9,11 @@ use Rattle.steps_2_to_4.proofs.reserve.Goals as goal
 pub returns-then-not-fit_tables : goal.returns-then-not-fit_tables
 returns-then-not-fit_tables c = sym (reserved-not _ _ _ _ _ _ _ (sym c.fit_tables.ensures ∙ not-true _ (ap not c.if-not-fit_tables.true)))
 
-pub invariant_of-sheet-clause-ranged : goal.invariant_of-sheet-clause-ranged
-invariant_of-sheet-clause-ranged c = sym c.fit_tables.ensures ∙ not-false _ (ap not c.if-not-fit_tables.false)
+pub invariant_of-inputs-clause-ranged : goal.invariant_of-inputs-clause-ranged
+invariant_of-inputs-clause-ranged c = sym c.fit_tables.ensures ∙ not-false _ (ap not c.if-not-fit_tables.false)
 
-pub invariant_of-sheet-clause-weighed : goal.invariant_of-sheet-clause-weighed
-invariant_of-sheet-clause-weighed c =
+pub invariant_of-inputs-clause-weighed : goal.invariant_of-inputs-clause-weighed
+invariant_of-inputs-clause-weighed c =
     let a = c.args in
     let fit = sym c.fit_tables.ensures ∙ not-false _ (ap not c.if-not-fit_tables.false) in
     let size : length a.read.tables.now.kw ≡ 12481 = search rules in

@@ -2,7 +2,7 @@
 use Rattle.steps.specs.Step4a.{pre_ra_claim}
 use Rattle.steps_2_to_4.specs.Reserved.{inputs}
 use Rattle.steps_2_to_4.proofs.PartLaws.{Rows}
-use Rattle.steps_2_to_4.proofs.Sheet.pre_ra_claims.Given as goal
+use Rattle.steps_2_to_4.proofs.Inputs.pre_ra_claims.Given as goal
 
 abbrev pub invariant-loop-holder : goal.invariant-loop-holder
 invariant-loop-holder l =

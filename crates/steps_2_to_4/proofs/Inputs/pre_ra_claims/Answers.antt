@@ -3,7 +3,7 @@ use borrow.Rule.Slice.PartMut.{mid_of, mid_len}
 use Rattle.steps.specs.Step4a.{pre_ra_claim}
 use Rattle.steps_2_to_4.specs.Reserved.{inputs}
 use Rattle.steps_2_to_4.proofs.PartLaws.{rows_next, part-row}
-use Rattle.steps_2_to_4.proofs.Sheet.pre_ra_claims.Goals as goal
+use Rattle.steps_2_to_4.proofs.Inputs.pre_ra_claims.Goals as goal
 
 pub loop-holder-preserved : goal.loop-holder-preserved
 unfolding pre_ra_claim

@@ -1,7 +1,7 @@
 -- `grant` meets its contract: each intertie's pool is shared out over its claims (`ClaimLaws`).
 use Rattle.steps_2_to_4.specs.Reserved.{inputs}
 use Rattle.steps_2_to_4.proofs.ClaimLaws.{granted-over}
-use Rattle.steps_2_to_4.proofs.Sheet.grant.Goals as goal
+use Rattle.steps_2_to_4.proofs.Inputs.grant.Goals as goal
 
 pub returns : goal.returns
 returns c =

@@ -1,8 +1,8 @@
 use Rattle.base.proofs.Prelude.{◌+◌, ◌-◌, ◌*◌, ◌≡◌, refl, ap, ◌∙◌, arith, length, at}
 use borrow.Rule.Slice.PartMut.{mid_of, mid_len}
 use Rattle.steps_2_to_4.proofs.PartLaws.{rows_next}
-use Rattle.steps_2_to_4.proofs.Sheet.new_use_claims.Invariants.{claim}
-use Rattle.steps_2_to_4.proofs.Sheet.new_use_claims.Goals as goal
+use Rattle.steps_2_to_4.proofs.Inputs.new_use_claims.Invariants.{claim}
+use Rattle.steps_2_to_4.proofs.Inputs.new_use_claims.Goals as goal
 
 pub loop-holder-preserved : goal.loop-holder-preserved
 loop-holder-preserved c = let a = c.args in

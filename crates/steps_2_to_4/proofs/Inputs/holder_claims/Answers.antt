@@ -2,7 +2,7 @@
 use Rattle.base.proofs.Prelude.{ℕ, ◌+◌, ◌-◌, ◌*◌, ◌<◌, ◌≡◌, refl, ap, ◌∙◌, arith, length, rules, sum_to, at}
 use Rattle.base.proofs.VectorLaws.{sum-part}
 use Rattle.steps_2_to_4.proofs.ClaimLaws.{holder-kept}
-use Rattle.steps_2_to_4.proofs.Sheet.holder_claims.Goals as goal
+use Rattle.steps_2_to_4.proofs.Inputs.holder_claims.Goals as goal
 
 pub returns : goal.returns
 returns c =

@@ -2,7 +2,7 @@
 use Rattle.base.proofs.Prelude.{◌-◌, ◌∙◌, ap, arith, length, rules}
 use Rattle.base.proofs.WordLaws.{length-tab}
 use Rattle.steps_2_to_4.proofs.ReserveLaws.{left-by-step-3, left-by-step-4a, granted-is}
-use Rattle.steps_2_to_4.proofs.Sheet.steps_3_and_4.Goals as goal
+use Rattle.steps_2_to_4.proofs.Inputs.steps_3_and_4.Goals as goal
 
 pub grant_pre_ra-requires : goal.grant_pre_ra-requires
 grant_pre_ra-requires c = c.take_off_each.auto.row ∙ ap length c.requires.0 ∙ length-tab _ _

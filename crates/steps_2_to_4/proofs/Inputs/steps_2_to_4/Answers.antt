@@ -1,5 +1,5 @@
 -- `steps_2_to_4` meets its contract: Steps 3 to 4b are handed what Step 2 left.
-use Rattle.steps_2_to_4.proofs.Sheet.steps_2_to_4.Goals as goal
+use Rattle.steps_2_to_4.proofs.Inputs.steps_2_to_4.Goals as goal
 
 pub returns : goal.returns
 returns c =
