@@ -138,14 +138,13 @@ impl Source<'_> {
         );
     }
 
-    // Stage 1, no taking yet; unassigned of the interties and unplaced of the holders, which is their Step 5 share. (The stage
-    // by `as`, which a proof computes: of `number()` it would have to cite the contract.)
+    // Stage 1, no taking yet; unassigned of the interties and unplaced of the holders, which is their Step 5 share.
     fn write_stage(self, state: &mut [u32; STATE_WORDS])
         ensures { let r = self.entry.read in state.new ≡ stage_written r.interties r.holders self.entry.figures.now state.old }
     {
         let unassigned = &self.figures.unassigned;
         let unplaced = &self.figures.shares;
-        state::store(state, layout::YEAR, layout::STAGE, Stage::Trading as u32);
+        state::store(state, layout::YEAR, layout::STAGE, Stage::Trading.number());
         state::store(state, layout::YEAR, layout::LAST_DAY, 0);
         state_rows::store_row(
             state,
@@ -189,7 +188,7 @@ impl Source<'_> {
 // Writes every word of an opened state, of a number over 32 bits its low ones: the sizes, the sheet's
 // limits, outside rights, load shares and E, and what the steps gave. Does nothing where the state is
 // under 16,000 words, or there are over 48 interties or over 32 holders. (Nothing, and no error: who calls it has tested them.
-// Not base's `sizes_in_range`, which asks for one of each.)
+// Not base's `sizes_in_range`, which asks for one of each; no method of `Read`, as steps_2_to_4 says at `fit_tables`.)
 pub fn write_state(state: &mut [u32], read: Read<'_>, figures: &Figures)
     ensures { let r = read.entry in state.new ≡ written r.tables.now r.interties r.holders figures.now state.old }
 {
