@@ -29,7 +29,7 @@ use Rattle.text.proofs.PutLaws.{appended-fits}
 use Rattle.text.proofs.EachLaws.{length-each, each_same}
 use Rattle.posting_text.specs.Text.{letter_t, letter_i, letter_r, line, intertie_line, holder_line, posting_text, refusal_line, text_of}
 use Rattle.posting_text.specs.Workers.Columns.{intertie_by_rows, holder_by_rows, lines_text, fresh}
-use Rattle.posting_text.proofs.TextLaws.{length-short, rows-few}
+use Rattle.posting_text.proofs.TextLaws.{length-short, by-rows-few}
 
 -- rows that have a posting's figures
 module _ (y : Inputs) (l : List ℕ) (r : Rows y l) where
@@ -128,7 +128,7 @@ module _ (s : List ℕ) where
                   length-short letter_t total.kw,
                   ap length second,
                   length-append t (each I (intertie_by_rows numbers)),
-                  length-each I 149 (intertie_by_rows numbers) (rows-few numbers 0 letter_i 6 (omega arith)),
+                  length-each I 149 (intertie_by_rows numbers) (λ n. by-rows-few numbers letter_i 0 6 n (omega arith)),
                   few-interties,
                   few-holders,
                 )

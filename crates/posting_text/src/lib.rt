@@ -1,13 +1,12 @@
 // The posting as text.
 #![tactic(auto)]
 
-ghost use Rattle.std.specs.Prelude.{◌≡◌, ◌+◌, ◌-◌, ◌*◌, ◌≤◌, ◌<◌, ◌++◌, length};
+ghost use Rattle.std.specs.Prelude.{◌≡◌, ◌+◌, ◌*◌, ◌≤◌, ◌<◌, ◌++◌, length};
 ghost use Rattle.base.specs.Limits.{most_interties};
 ghost use Rattle.text.specs.Written.{appended};
 ghost use Rattle.text.specs.Lines.{each};
-ghost use Rattle.posting.specs.Rows.{posting_rows};
 ghost use Rattle.posting_text.specs.Text.{text_of};
-ghost use Rattle.posting_text.specs.Workers.Columns.{long_bytes, text_bytes, line_rows, by_rows};
+ghost use Rattle.posting_text.specs.Workers.Columns.{long_bytes, text_bytes, line_rows, line_by};
 
 use arrayvec::ArrayVec;
 use base::limits::{MOST_HOLDERS, MOST_INTERTIES};
@@ -36,20 +35,17 @@ pub fn posting_text(sheet: &[u8]) -> ArrayVec<u8, TEXT_BYTES>
             let interties = sheet_records::words::intertie_count(sheet) as usize;
             let holders = sheet_records::words::holder_count(sheet) as usize;
             put_line(b"T", b' ', &[total.kw], &mut text);
+            let (table, _) = numbers.as_chunks::<ROW_WORDS>();
             put_lines(
                 b'I',
-                rows::LIMIT,
-                rows::UNASSIGNED + 1,
+                &table[rows::LIMIT..=rows::UNASSIGNED],
                 interties,
-                &numbers,
                 &mut text,
             );
             put_lines(
                 b'H',
-                rows::LOAD_SHARE,
-                rows::STEP_5_SHARE + 1,
+                &table[rows::LOAD_SHARE..=rows::STEP_5_SHARE],
                 holders,
-                &numbers,
                 &mut text,
             );
         }
@@ -60,40 +56,35 @@ pub fn posting_text(sheet: &[u8]) -> ArrayVec<u8, TEXT_BYTES>
     text
 }
 
-// The lines of the interties or of the holders: of each a letter, its number, and its figure in each row of a range.
+// The lines of the interties or of the holders: of each a letter, its number, and its figure in each of some rows.
 fn put_lines(
     letter: u8,
-    first: usize,
-    end: usize,
+    rows: &[[u64; ROW_WORDS]],
     count: usize,
-    numbers: &[u64; NUMBERS],
     text: &mut ArrayVec<u8, TEXT_BYTES>,
 )
-    requires { (first ≤ end) × (end ≤ first + line_rows) × (end ≤ posting_rows) × (count ≤ most_interties)
-        × (length text.old.items + long_bytes * count ≤ text_bytes) }
-    ensures { text.new.items ≡ text.old.items ++ each count (by_rows numbers.now letter first (end - first)) }
+    requires { (length rows.now ≤ line_rows) × (count ≤ most_interties) × (length text.old.items + long_bytes * count ≤ text_bytes) }
+    ensures { text.new.items ≡ text.old.items ++ each count (line_by letter rows.now) }
 {
     for number in 0..count {
-        put_one(letter, first, end, number, numbers, text);
+        put_one(letter, rows, number, text);
     }
 }
 
-// Such a line. (Its parts one by one: it is apart for its clause alone.)
+// Such a line. (Apart for its clause alone.)
 fn put_one(
     letter: u8,
-    first: usize,
-    end: usize,
+    rows: &[[u64; ROW_WORDS]],
     number: usize,
-    numbers: &[u64; NUMBERS],
     text: &mut ArrayVec<u8, TEXT_BYTES>,
 )
-    requires { (first ≤ end) × (end ≤ first + line_rows) × (end ≤ posting_rows) × (number < most_interties) }
-    ensures { text.new.items ≡ appended text_bytes (by_rows numbers.now letter first (end - first) number) text.old.items }
+    requires { (length rows.now ≤ line_rows) × (number < most_interties) }
+    ensures { text.new.items ≡ appended text_bytes (line_by letter rows.now number) text.old.items }
 {
     let mut figures = ArrayVec::<u64, LINE_FIGURES>::new();
     figures.push(number as u64);
-    for row in first..end {
-        figures.push(numbers[ROW_WORDS * row + number]);
+    for row in rows {
+        figures.push(row[number]);
     }
     put_line(&[letter], b' ', &figures, text);
 }

@@ -1,6 +1,6 @@
-use Rattle.base.proofs.Prelude.{◌-◌, arith}
+use Rattle.base.proofs.Prelude.{arith}
 use Rattle.text.proofs.EachLaws.{each-none, each_turn}
-use Rattle.posting_text.specs.Workers.Columns.{by_rows}
+use Rattle.posting_text.specs.Workers.Columns.{line_by}
 use Rattle.posting_text.proofs.TextLaws.{rows-few}
 use Rattle.posting_text.proofs.put_lines.Goals as goal
 
@@ -10,5 +10,4 @@ loop-number-init c = each-none _ _
 pub loop-number-preserved : goal.loop-number-preserved
 loop-number-preserved c =
     let a = c.args in
-    each_turn 149 (by_rows a.numbers.now a.letter a.first (a.end - a.first)) (rows-few a.numbers.now a.first a.letter (a.end - a.first) (omega arith)) _ _ _ _ _
-    (omega arith) c.loop-number.invariant c.put_one.ensures
+    each_turn 149 (line_by a.letter a.rows.now) (rows-few a.rows.now a.letter (omega arith)) _ _ _ _ _ (omega arith) c.loop-number.invariant c.put_one.ensures

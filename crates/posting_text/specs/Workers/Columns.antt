@@ -1,5 +1,5 @@
 -- A posting's text by its rows of numbers, as the code writes it.
-use Rattle.std.specs.Prelude.{ℕ, ◌+◌, List, [], ◌∷◌, ◌++◌, replicate}
+use Rattle.std.specs.Prelude.{ℕ, ◌+◌, List, [], ◌∷◌, ◌++◌, length, get_or, replicate}
 use Rattle.base.specs.Words.{at, tab}
 use Rattle.text.specs.Lines.{each}
 use Rattle.state.specs.Layout.{place}
@@ -18,8 +18,16 @@ text_bytes = 12069
 abbrev pub line_rows : ℕ
 line_rows = 6
 
+-- the figures of intertie or holder n in the first so many rows
+abbrev pub figures_by : List (List ℕ) → ℕ → ℕ → List ℕ
+figures_by rows count n = tab count (λ r. at (get_or rows r []) n)
+
+-- its line: a letter, n, and its figure in each row
+abbrev pub line_by : ℕ → List (List ℕ) → ℕ → List ℕ
+line_by letter rows n = line letter (n ∷ figures_by rows (length rows) n)
+
 module _ (l : List ℕ) where
-  -- a line of intertie or holder n: a letter, n, and the figure of n in each of so many rows from one on
+  -- the same of so many rows of a posting, from one on
   abbrev pub by_rows : ℕ → ℕ → ℕ → ℕ → List ℕ
   by_rows letter first count n = line letter (n ∷ tab count (λ r. at l (place (first + r) n)))
 
