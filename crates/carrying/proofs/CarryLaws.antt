@@ -15,13 +15,13 @@ use Rattle.state.specs.Layout as Layout
 use Rattle.state.specs.Orderly.{state_refusal}
 use Rattle.state.proofs.OrderlyLaws.{Orderly, refusal-none}
 use Rattle.call.proofs.LadderLaws.{none_first, none-second}
-use Rattle.carrying.specs.Line.{Line}
-use Rattle.carrying.specs.Lines.{kept, with_locks, next_lines}
+use Rattle.carrying.specs.NextRecord.{NextRecord}
+use Rattle.carrying.specs.NextRecords.{kept, with_locks, next_records}
 use Rattle.carrying.specs.NewSheet.{new_sheet}
 use Rattle.carrying.specs.Carry.{early_refusal, sizes_differ, does_not_fit, carry_refusal, carried}
 use Rattle.carrying.specs.Workers.Draft.{Drafted, DraftOf, Adds}
 use Rattle.carrying.proofs.DraftLaws.{draft-few}
-use Rattle.carrying.proofs.FitLaws.{lines_fit, keys_same, fitting}
+use Rattle.carrying.proofs.FitLaws.{records_fit, keys_same, fitting}
 
 -- not both of two tests
 not-both : (a b : Bool) → not a || not b ≡ not (a && b)
@@ -55,8 +55,8 @@ module _ (sheet state : List ℕ) (e : early_refusal sheet state ≡ 0) where
   sizes_read i h I H ei eh eI eH = rw (ei, eh, eI, eH, size-there) (not-both (eqb (Sheet.interties sheet) (Layout.interties state)) (eqb (Sheet.holders sheet) (Layout.holders state)))
 
 module _ (sheet state output : List ℕ) where
-  abbrev lines : List Line
-  lines = next_lines sheet state
+  abbrev records : List NextRecord
+  records = next_records sheet state
 
   -- what a call that is refused with a number answers, and the output as it was
   abbrev Refused : ℕ → Type 0
@@ -81,13 +81,13 @@ module _ (sheet state output : List ℕ) where
   -- a draft of what goes on and of the locks, with b for what its test gave
   module _ (early : early_refusal sheet state ≡ 0) (same : sizes_differ sheet state ≡ false)
       (kept_draft d : Drafted) (of : DraftOf (kept sheet (Sheet.count sheet)) kept_draft) (adds : Adds (with_locks state (Layout.holders state)) kept_draft d)
-      (H : ℕ) (eH : H ≡ Layout.holders state) (b : Bool) (eb : (l : List Line) → DraftOf l d → b ≡ does_not_fit H l (length output)) where
-    drafted : DraftOf lines d
-    unfolding next_lines
+      (H : ℕ) (eH : H ≡ Layout.holders state) (b : Bool) (eb : (l : List NextRecord) → DraftOf l d → b ≡ does_not_fit H l (length output)) where
+    drafted : DraftOf records d
+    unfolding next_records
     drafted = adds (kept sheet (Sheet.count sheet)) of
 
-    test-is : b ≡ does_not_fit (Layout.holders state) lines (length output)
-    test-is = eb lines drafted ∙ ap (λ (k : ℕ). does_not_fit k lines (length output)) eH
+    test-is : b ≡ does_not_fit (Layout.holders state) records (length output)
+    test-is = eb records drafted ∙ ap (λ (k : ℕ). does_not_fit k records (length output)) eH
 
     pub refused_unfit : b ≡ true → Refused 14
     unfolding carry_refusal
@@ -95,15 +95,15 @@ module _ (sheet state output : List ℕ) where
 
     pub draft-fits : b ≡ false → (length d.keys ≤ 1024) × (size_of (length d.keys) ≤ length output)
     draft-fits f =
-        let fits = fitting (Layout.holders state) lines (length output) (sym test-is ∙ f) in
-        rw (draft-few lines d drafted) (fits.0, fits.2)
+        let fits = fitting (Layout.holders state) records (length output) (sym test-is ∙ f) in
+        rw (draft-few records d drafted) (fits.0, fits.2)
 
     pub draft-written : (I : ℕ) (written : List ℕ) → b ≡ false → ((i : ℕ) → at sheet i < 256) → I ≡ Layout.interties state →
         written ≡ with_sheet (sheet_bytes I H d.keys d.kws) output →
         (granted 0 0 ≡ (carried sheet state output).answer) × (written ≡ (carried sheet state output).output)
     unfolding carried carry_refusal new_sheet
     draft-written I written f bytes eI ew =
-        let lines-low = lines_fit state (state-stands sheet state early) sheet bytes in
-        let low = (fitting (Layout.holders state) lines (length output) (sym test-is ∙ f)).1 in
-        let keyed = drafted.keys-are ∙ keys_same (Layout.holders state) lines lines-low low in
+        let records-low = records_fit state (state-stands sheet state early) sheet bytes in
+        let low = (fitting (Layout.holders state) records (length output) (sym test-is ∙ f)).1 in
+        let keyed = drafted.keys-are ∙ keys_same (Layout.holders state) records records-low low in
         rw (early, same, ← test-is, f) (refl, ew ∙ rw (eI, eH, keyed, drafted.kws-are) refl)

@@ -1,8 +1,8 @@
-pub mod LineLaws
+pub mod RecordLaws
 pub mod DraftLaws
 pub mod FitLaws
 pub mod CarryLaws
-pub mod LineSums
+pub mod RecordSums
 pub mod StandLaws
 pub mod RankLaws
 pub mod NewSheetLaws

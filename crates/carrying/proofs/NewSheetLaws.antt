@@ -1,4 +1,4 @@
--- Reading a new sheet gives its sizes, its number of lines, and each line's key and quantity.
+-- Reading a new sheet gives its sizes, its number of records, and each record's key and quantity.
 use Rattle.std.proofs.Common.{ℕ, ◌≤◌, ◌<◌, ◌≡◌, sym, ap, ◌∙◌, Bool, List, map, arith, length}
 use lib.ListN.{length-map, get_or-map}
 use Rattle.base.specs.Choice.{pick}
@@ -6,12 +6,12 @@ use Rattle.base.specs.Sums.{sum_to}
 use Rattle.base.proofs.SumLaws.{sum_to-same}
 use Rattle.sheet_records.specs.Sheet.{most_word, size_of, interties, holders, count, key_at, kw_at, sum_over}
 use Rattle.sheet_records.proofs.BytesLaws.{sheet-length, sheet-interties, sheet-holders, sheet-count, sheet-key, sheet-kw}
-use Rattle.carrying.specs.Line.{Line, key_of, quantity_of, line_in}
+use Rattle.carrying.specs.NextRecord.{NextRecord, key_of, quantity_of, record_in}
 use Rattle.carrying.specs.NewSheet.{new_sheet}
-use Rattle.carrying.proofs.LineLaws.{no_line}
-use Rattle.carrying.proofs.LineSums.{sum_in}
+use Rattle.carrying.proofs.RecordLaws.{no_record}
+use Rattle.carrying.proofs.RecordSums.{sum_in}
 
-module _ (I H : ℕ) (l : List Line) where
+module _ (I H : ℕ) (l : List NextRecord) where
   abbrev s : List ℕ
   s = new_sheet I H l
 
@@ -44,27 +44,27 @@ module _ (I H : ℕ) (l : List Line) where
   new-count few = sheet-count I H keys kws even (rw size few) ∙ size
 
   -- where keys and quantities fit 32 bits
-  module _ (few : length l ≤ 1024) (low : (k : ℕ) → k < length l → (key_of (line_in l k) ≤ most_word) × ((line_in l k).kw ≤ most_word)) where
-    pub new-key : (k : ℕ) → k < length l → key_at s k ≡ key_of (line_in l k)
+  module _ (few : length l ≤ 1024) (low : (k : ℕ) → k < length l → (key_of (record_in l k) ≤ most_word) × ((record_in l k).kw ≤ most_word)) where
+    pub new-key : (k : ℕ) → k < length l → key_at s k ≡ key_of (record_in l k)
     unfolding new_sheet
     new-key k b =
-        let there = get_or-map key_of l k no_line in
+        let there = get_or-map key_of l k no_record in
         sheet-key I H keys kws even k (rw size b) (rw there (low k b).0) ∙ there
 
-    pub new-kw : (k : ℕ) → k < length l → kw_at s k ≡ (line_in l k).kw
+    pub new-kw : (k : ℕ) → k < length l → kw_at s k ≡ (record_in l k).kw
     unfolding new_sheet
     new-kw k b =
-        let there = get_or-map quantity_of l k no_line in
+        let there = get_or-map quantity_of l k no_record in
         sheet-kw I H keys kws even (rw size few) k (rw size b) (rw there (low k b).1) ∙ there
 
-    -- a sum over its records is one over its lines
-    pub new-sum : (test : ℕ → Bool) (own : Line → Bool) (amount : ℕ → ℕ) → ((k : ℕ) → k < length l → test (key_of (line_in l k)) ≡ own (line_in l k)) →
+    -- a sum over the records that are read is one over those that were written
+    pub new-sum : (test : ℕ → Bool) (own : NextRecord → Bool) (amount : ℕ → ℕ) → ((k : ℕ) → k < length l → test (key_of (record_in l k)) ≡ own (record_in l k)) →
         sum_over s test (λ k. amount (kw_at s k)) ≡ sum_in own amount l
     unfolding sum_over sum_in
     new-sum test own amount same =
         ap (λ (n : ℕ). sum_to n (λ k. pick (test (key_at s k)) (amount (kw_at s k)) 0)) (new-count few)
-        ∙ sum_to-same (length l) (λ k. pick (test (key_at s k)) (amount (kw_at s k)) 0) (λ k. pick (own (line_in l k)) (amount (line_in l k).kw) 0)
+        ∙ sum_to-same (length l) (λ k. pick (test (key_at s k)) (amount (kw_at s k)) 0) (λ k. pick (own (record_in l k)) (amount (record_in l k).kw) 0)
         (λ k b.
         ap (λ (x : ℕ). pick (test x) (amount (kw_at s k)) 0) (new-key k b)
         ∙ ap (λ (t : Bool). pick t (amount (kw_at s k)) 0) (same k b)
-        ∙ ap (λ (q : ℕ). pick (own (line_in l k)) (amount q) 0) (new-kw k b))
+        ∙ ap (λ (q : ℕ). pick (own (record_in l k)) (amount q) 0) (new-kw k b))

@@ -1,4 +1,4 @@
--- What carry writes is a sheet that is not refused, and its records are the lines of next year's sheet.
+-- What carry writes is a sheet that is not refused, and the records read from it are those that next year is to have.
 use Rattle.std.proofs.Common.{ℕ, ◌+◌, ◌*◌, ◌≤◌, ◌<◌, ◌≡◌, refl, ap, ◌∙◌, Bool, true, false, ◌&&◌, ◌||◌, List, ◌++◌, arith, eqb, leb, length, drop, eqb-true, leb-true, leb-false, le-leb, le-ltb, eq-eqb, ne_eqb}
 use borrow.Author.Tests.{not-false}
 use Rattle.base.specs.Sums.{all_to}
@@ -14,14 +14,14 @@ use Rattle.sheet_reading.proofs.SheetLaws.{Stands, standing}
 use Rattle.state.specs.Layout.{interties, holders}
 use Rattle.state.proofs.OrderlyLaws.{Orderly}
 use Rattle.call.proofs.LadderLaws.{none_first, none-second, not-whenever}
-use Rattle.carrying.specs.Line.{Line, key_of, line_in}
-use Rattle.carrying.specs.Lines.{kept, highest, next_lines}
+use Rattle.carrying.specs.NextRecord.{NextRecord, key_of, record_in}
+use Rattle.carrying.specs.NextRecords.{kept, highest, next_records}
 use Rattle.carrying.specs.NewSheet.{new_sheet}
 use Rattle.carrying.specs.Carry.{early_refusal, sizes_differ, does_not_fit, carry_refusal, carried}
-use Rattle.carrying.proofs.FitLaws.{lines_fit, rank-fits, fitting}
-use Rattle.carrying.proofs.LineSums.{sum_in, kept_same, kept-most, locks-add}
-use Rattle.carrying.proofs.StandLaws.{fields_stand, fields-rule, lines-stand}
-use Rattle.carrying.proofs.RankLaws.{lines-once}
+use Rattle.carrying.proofs.FitLaws.{records_fit, rank-fits, fitting}
+use Rattle.carrying.proofs.RecordSums.{sum_in, kept_same, kept-most, locks-add}
+use Rattle.carrying.proofs.StandLaws.{fields_stand, fields-rule, keep-rules}
+use Rattle.carrying.proofs.RankLaws.{records-once}
 use Rattle.carrying.proofs.NewSheetLaws.{new-length, new-interties, new-holders, new-count, new-key, new-kw, new-sum}
 use Rattle.carrying.proofs.CarryLaws.{sheet-stands, state-stands}
 
@@ -69,8 +69,8 @@ rules s e =
     }
 
 module _ (sheet state output : List ℕ) (bytes : (i : ℕ) → at sheet i < 256) (e : carry_refusal sheet state output ≡ 0) where
-  abbrev lines : List Line
-  lines = next_lines sheet state
+  abbrev records : List NextRecord
+  records = next_records sheet state
 
   abbrev I : ℕ
   I = interties state
@@ -80,24 +80,24 @@ module _ (sheet state output : List ℕ) (bytes : (i : ℕ) → at sheet i < 256
 
   -- the sheet that is written
   abbrev new : List ℕ
-  new = new_sheet I H lines
+  new = new_sheet I H records
 
   early : early_refusal sheet state ≡ 0
   unfolding carry_refusal
   early = none_first (early_refusal sheet state) _ e
 
-  passes : sizes_differ sheet state || does_not_fit H lines (length output) ≡ false
+  passes : sizes_differ sheet state || does_not_fit H records (length output) ≡ false
   unfolding carry_refusal
-  passes = not-whenever (sizes_differ sheet state || does_not_fit H lines (length output)) 14 (omega arith) (none-second (early_refusal sheet state) _ e)
+  passes = not-whenever (sizes_differ sheet state || does_not_fit H records (length output)) 14 (omega arith) (none-second (early_refusal sheet state) _ e)
 
   same-sizes : (Sheet.interties sheet ≡ I) × (Sheet.holders sheet ≡ H)
   unfolding sizes_differ
   same-sizes =
       (equal-two (Sheet.interties sheet) I (Sheet.holders sheet) H).0
-      (not-false (eqb (Sheet.interties sheet) I && eqb (Sheet.holders sheet) H) (or_left (sizes_differ sheet state) (does_not_fit H lines (length output)) passes))
+      (not-false (eqb (Sheet.interties sheet) I && eqb (Sheet.holders sheet) H) (or_left (sizes_differ sheet state) (does_not_fit H records (length output)) passes))
 
-  fits : (length lines ≤ 1024) × (all_to H (λ h. leb (highest h lines) 255) ≡ true) × (size_of (length lines) ≤ length output)
-  fits = fitting H lines (length output) (or_right (sizes_differ sheet state) (does_not_fit H lines (length output)) passes)
+  fits : (length records ≤ 1024) × (all_to H (λ h. leb (highest h records) 255) ≡ true) × (size_of (length records) ≤ length output)
+  fits = fitting H records (length output) (or_right (sizes_differ sheet state) (does_not_fit H records (length output)) passes)
 
   order : Orderly state
   order = state-stands sheet state early
@@ -108,76 +108,76 @@ module _ (sheet state output : List ℕ) (bytes : (i : ℕ) → at sheet i < 256
   old-rules : Rules sheet
   old-rules = rules sheet (sheet-stands sheet state early)
 
-  -- each line's fields, taken out of its key
-  line-again : (j : ℕ) → j < length lines →
-      let x : Line = line_in lines j in
+  -- each record's fields, taken out of its key
+  record-again : (j : ℕ) → j < length records →
+      let x : NextRecord = record_in records j in
       Again (key_of x) x.kind x.holder x.intertie x.rank x.years
-  line-again j b =
-      let x : Line = line_in lines j in
-      let fit = lines_fit state order sheet bytes in
+  record-again j b =
+      let x : NextRecord = record_in records j in
+      let fit = records_fit state order sheet bytes in
       let f = fit j b in
       again x.kind x.holder x.intertie x.rank x.years
-      f.kind-low f.holder-low f.intertie-low (rank-fits H lines fit fits.1 j b) f.years-low
+      f.kind-low f.holder-low f.intertie-low (rank-fits H records fit fits.1 j b) f.years-low
 
-  -- each line keeps its rule, as a record
-  line-stands : (j : ℕ) → j < length lines → record_stands I H (key_of (line_in lines j)) (line_in lines j).kw ≡ true
-  line-stands j b =
-      let x : Line = line_in lines j in
-      fields-by I H (key_of x) x.kw x.kind x.holder x.intertie x.rank x.years (line-again j b)
-      (lines-stand state order sheet old same-sizes.0 same-sizes.1 j b)
+  -- each record keeps the rule of its kind, by its key
+  keeps-rule : (j : ℕ) → j < length records → record_stands I H (key_of (record_in records j)) (record_in records j).kw ≡ true
+  keeps-rule j b =
+      let x : NextRecord = record_in records j in
+      fields-by I H (key_of x) x.kw x.kind x.holder x.intertie x.rank x.years (record-again j b)
+      (keep-rules state order sheet old same-sizes.0 same-sizes.1 j b)
 
-  line_small : (j : ℕ) → j < length lines → (key_of (line_in lines j) ≤ 4_294_967_295) × ((line_in lines j).kw ≤ 4_294_967_295)
-  line_small j b =
-      let x : Line = line_in lines j in
-      let k = SheetLaws.kept I H (key_of x) x.kw (line-stands j b) in
-      ((line-again j b).small, omega (arith, k.modest))
+  record_small : (j : ℕ) → j < length records → (key_of (record_in records j) ≤ 4_294_967_295) × ((record_in records j).kw ≤ 4_294_967_295)
+  record_small j b =
+      let x : NextRecord = record_in records j in
+      let k = SheetLaws.kept I H (key_of x) x.kw (keeps-rule j b) in
+      ((record-again j b).small, omega (arith, k.modest))
 
   -- what reading the sheet gives
   pub next-interties : Sheet.interties new ≡ I
-  next-interties = new-interties I H lines order.interties-most
+  next-interties = new-interties I H records order.interties-most
 
   pub next-holders : Sheet.holders new ≡ H
-  next-holders = new-holders I H lines order.holders-most
+  next-holders = new-holders I H records order.holders-most
 
-  pub next-count : count new ≡ length lines
-  next-count = new-count I H lines fits.0
+  pub next-count : count new ≡ length records
+  next-count = new-count I H records fits.0
 
-  pub next-key : (k : ℕ) → k < length lines → key_at new k ≡ key_of (line_in lines k)
-  next-key = new-key I H lines fits.0 line_small
+  pub next-key : (k : ℕ) → k < length records → key_at new k ≡ key_of (record_in records k)
+  next-key = new-key I H records fits.0 record_small
 
-  pub next-kw : (k : ℕ) → k < length lines → kw_at new k ≡ (line_in lines k).kw
-  next-kw = new-kw I H lines fits.0 line_small
+  pub next-kw : (k : ℕ) → k < length records → kw_at new k ≡ (record_in records k).kw
+  next-kw = new-kw I H records fits.0 record_small
 
   -- a sum over the new sheet's records by a test of the fields, and over the old sheet's
   module _ (F : ℕ → ℕ → ℕ → ℕ → Bool) (amount : ℕ → ℕ) where
     abbrev of_key : ℕ → Bool
     of_key key = F (kind_of key) (holder_of key) (intertie_of key) (rank_of key)
 
-    abbrev of_line : Line → Bool
-    of_line x = F x.kind x.holder x.intertie x.rank
+    abbrev of_record : NextRecord → Bool
+    of_record x = F x.kind x.holder x.intertie x.rank
 
-    by_lines : sum_over new of_key (λ k. amount (kw_at new k)) ≡ sum_in of_line amount lines
-    by_lines =
-        new-sum I H lines fits.0 line_small of_key of_line amount
+    by_records : sum_over new of_key (λ k. amount (kw_at new k)) ≡ sum_in of_record amount records
+    by_records =
+        new-sum I H records fits.0 record_small of_key of_record amount
         (λ j b.
-        let x : Line = line_in lines j in
-        test_by F (key_of x) x.kind x.holder x.intertie x.rank x.years (line-again j b))
+        let x : NextRecord = record_in records j in
+        test_by F (key_of x) x.kind x.holder x.intertie x.rank x.years (record-again j b))
 
     -- of a kind other than 6
     module _ (no-lock : (h i r : ℕ) → F 6 h i r ≡ false) where
-      kept-lines : sum_in of_line amount lines ≡ sum_in of_line amount (kept sheet (count sheet))
-      unfolding next_lines
-      kept-lines = locks-add of_line amount state (λ h i l. no-lock h i (highest h l + 1)) H (kept sheet (count sheet))
+      kept-records : sum_in of_record amount records ≡ sum_in of_record amount (kept sheet (count sheet))
+      unfolding next_records
+      kept-records = locks-add of_record amount state (λ h i l. no-lock h i (highest h l + 1)) H (kept sheet (count sheet))
 
       sum-most : sum_over new of_key (λ k. amount (kw_at new k)) ≤ sum_over sheet of_key (λ k. amount (kw_at sheet k))
       unfolding sum_over
-      sum-most = rw (by_lines ∙ kept-lines) (kept-most of_line amount sheet of_key (λ key q _. refl) (count sheet))
+      sum-most = rw (by_records ∙ kept-records) (kept-most of_record amount sheet of_key (λ key q _. refl) (count sheet))
 
       sum_same : ((key : ℕ) → 3 < kind_of key → of_key key ≡ false) → sum_over new of_key (λ k. amount (kw_at new k)) ≡ sum_over sheet of_key (λ k. amount (kw_at sheet k))
       unfolding sum_over
       sum_same drops =
-          by_lines ∙ kept-lines
-          ∙ kept_same of_line amount sheet of_key (λ key q _. refl)
+          by_records ∙ kept-records
+          ∙ kept_same of_record amount sheet of_key (λ key q _. refl)
           (λ key f. drops key (leb-false (kind_of key) 3 (or_left (leb (kind_of key) 3) (leb 2 (years_of key)) f))) (count sheet)
 
   -- of kinds 1, 2 and 3
@@ -208,8 +208,8 @@ module _ (sheet state output : List ℕ) (bytes : (i : ℕ) → at sheet i < 256
 
   rank-once : (h r : ℕ) → h < H → r < 256 → how_many new (is_new_use h r) ≤ 1
   rank-once h r b c =
-      rw (by_lines (λ k h' i r'. eqb k 6 && eqb h' h && eqb r' r) (λ q. 1))
-      (lines-once state sheet (λ h r b c. old-rules.one_rank h r (rw same-sizes.1 b) c) h r b c)
+      rw (by_records (λ k h' i r'. eqb k 6 && eqb h' h && eqb r' r) (λ q. 1))
+      (records-once state sheet (λ h r b c. old-rules.one_rank h r (rw same-sizes.1 b) c) h r b c)
 
   -- refusal 1
   new-length-good : bad_length new ≡ false
@@ -217,11 +217,11 @@ module _ (sheet state output : List ℕ) (bytes : (i : ℕ) → at sheet i < 256
   new-length-good =
       let few = fits.0 in
       rw (
-        new-length I H lines,
+        new-length I H records,
         next-count,
-        le-ltb (size_of (length lines)) 12 (omega arith),
-        le-ltb 1024 (length lines) few,
-        eq-eqb (size_of (length lines)) (12 + 8 * length lines) refl,
+        le-ltb (size_of (length records)) 12 (omega arith),
+        le-ltb 1024 (length records) few,
+        eq-eqb (size_of (length records)) (12 + 8 * length records) refl,
       ) refl
 
   -- refusal 2
@@ -244,8 +244,8 @@ module _ (sheet state output : List ℕ) (bytes : (i : ℕ) → at sheet i < 256
       all-four (records_stand new) (one_limit_each new) (one_load_share_each new) (no_rank_twice new)
       (all_to-all (count new) (λ k. record_stands (Sheet.interties new) (Sheet.holders new) (key_at new k) (kw_at new k))
       (λ k b.
-      let c : k < length lines = rw (← next-count) b in
-      rw (next-interties, next-holders, next-key k c, next-kw k c) (line-stands k c)))
+      let c : k < length records = rw (← next-count) b in
+      rw (next-interties, next-holders, next-key k c, next-kw k c) (keeps-rule k c)))
       (all_to-all (Sheet.interties new) (λ i. eqb (how_many new (is_limit i)) 1)
       (λ i b.
       eq-eqb (how_many new (is_limit i)) 1
@@ -270,6 +270,6 @@ module _ (sheet state output : List ℕ) (bytes : (i : ℕ) → at sheet i < 256
   next-sheet-stands = rw (new-length-good, new-sizes-good, new-rules-hold, new-limits-hold) refl
 
   -- it is what stands in the first bytes of the output, and the later bytes are as they were
-  pub carried-sheet : (carried sheet state output).output ≡ new ++ drop (size_of (length lines)) output
+  pub carried-sheet : (carried sheet state output).output ≡ new ++ drop (size_of (length records)) output
   unfolding carried
-  carried-sheet = rw e (ap (λ (k : ℕ). new ++ drop k output) (new-length I H lines))
+  carried-sheet = rw e (ap (λ (k : ℕ). new ++ drop k output) (new-length I H records))

@@ -1,4 +1,4 @@
--- Each line of next year's sheet keeps the rule of its kind.
+-- Each record of next year's sheet keeps the rule of its kind.
 use Rattle.std.proofs.Common.{ℕ, ◌+◌, ◌-◌, ◌≤◌, ◌<◌, ◌≡◌, refl, sym, ◌∙◌, Bool, true, false, ◌&&◌, List, arith, eqb, ltb, leb, le-leb, lt-ltb, ne_eqb, leb-true, leb-false, ltb-true}
 use Rattle.base.specs.Choice.{pick}
 use Rattle.base.proofs.ChoiceLaws.{and_both, both}
@@ -9,9 +9,9 @@ use Rattle.sheet_records.specs.Refusal.{within, repeatable, record_stands}
 use Rattle.sheet_reading.proofs.SheetLaws.{Stands}
 use Rattle.state.specs.Layout.{interties, holders, placed_of, locked_of, term_of}
 use Rattle.state.proofs.OrderlyLaws.{Orderly}
-use Rattle.carrying.specs.Line.{Line}
-use Rattle.carrying.specs.Lines.{yearless, goes_on, next_line, highest, lock_line, next_lines}
-use Rattle.carrying.proofs.LineLaws.{AllLines, lines-all}
+use Rattle.carrying.specs.NextRecord.{NextRecord}
+use Rattle.carrying.specs.NextRecords.{yearless, goes_on, next_record, highest, lock_record, next_records}
+use Rattle.carrying.proofs.RecordLaws.{AllRecords, records-all}
 
 -- the rule of a record's kind, over its fields
 unfoldable pub fields_stand : ℕ → ℕ → ℕ → ℕ → ℕ → ℕ → ℕ → ℕ → Bool
@@ -27,8 +27,8 @@ pub fields-rule : (I H key q : ℕ) → record_stands I H key q ≡ fields_stand
 unfolding record_stands fields_stand
 fields-rule I H key q = refl
 
-abbrev pub line_stands : ℕ → ℕ → Line → Bool
-line_stands I H x = fields_stand I H x.kind x.holder x.intertie x.rank x.years x.kw
+abbrev pub keeps_rule : ℕ → ℕ → NextRecord → Bool
+keeps_rule I H x = fields_stand I H x.kind x.holder x.intertie x.rank x.years x.kw
 
 -- the fourth of five tests exchanged
 fourth : (p w w' e : Bool) → (w ≡ true → w' ≡ true) → p && w && e ≡ true → p && w' && e ≡ true
@@ -56,7 +56,7 @@ stands-less I H k h i r y q late two t =
     go false false e = e
 
 -- a record that goes on stands as it is written
-next-stands : (I H key q : ℕ) → goes_on key ≡ true → record_stands I H key q ≡ true → line_stands I H (next_line key q) ≡ true
+next-stands : (I H key q : ℕ) → goes_on key ≡ true → record_stands I H key q ≡ true → keeps_rule I H (next_record key q) ≡ true
 next-stands I H key q on t = go (yearless key) refl on (sym (fields-rule I H key q) ∙ t)
   where
     stood : ℕ → Bool
@@ -76,7 +76,7 @@ module _ (s : List ℕ) (o : Orderly s) where
   locked-small h i a b =
       omega (arith, o.locked-most h i a b, sum_to-term (holders s) (λ h. placed_of s h i) h a, o.balance i b, o.limit-most i b)
 
-  lock-stands : (h i : ℕ) (l : List Line) → h < holders s → i < interties s → ltb 0 (locked_of s h i) ≡ true → line_stands (interties s) (holders s) (lock_line s h i l) ≡ true
+  lock-stands : (h i : ℕ) (l : List NextRecord) → h < holders s → i < interties s → ltb 0 (locked_of s h i) ≡ true → keeps_rule (interties s) (holders s) (lock_record s h i l) ≡ true
   unfolding fields_stand
   lock-stands h i l a b t =
       let some = ltb-true 0 (locked_of s h i) t in
@@ -91,8 +91,8 @@ module _ (s : List ℕ) (o : Orderly s) where
         le-leb (locked_of s h i) 20_000_000 (locked-small h i a b),
       ) refl
 
-  pub lines-stand : (sheet : List ℕ) → Stands sheet → Sheet.interties sheet ≡ interties s → Sheet.holders sheet ≡ holders s →
-      AllLines (λ x. line_stands (interties s) (holders s) x ≡ true) (next_lines sheet s)
-  lines-stand sheet old eI eH =
-      lines-all (λ x. line_stands (interties s) (holders s) x ≡ true) s lock-stands sheet
+  pub keep-rules : (sheet : List ℕ) → Stands sheet → Sheet.interties sheet ≡ interties s → Sheet.holders sheet ≡ holders s →
+      AllRecords (λ x. keeps_rule (interties s) (holders s) x ≡ true) (next_records sheet s)
+  keep-rules sheet old eI eH =
+      records-all (λ x. keeps_rule (interties s) (holders s) x ≡ true) s lock-stands sheet
       (λ k b on. next-stands (interties s) (holders s) (Sheet.key_at sheet k) (Sheet.kw_at sheet k) on (rw (← eI, ← eH) (old.each-record k b)))

@@ -14,8 +14,8 @@ use Rattle.sheet_records.specs.Refusal.{sheet_refusal}
 use Rattle.state.specs.Layout as Layout
 use Rattle.state.specs.Orderly.{state_refusal}
 use Rattle.call.specs.Outcome.{or_else, whenever}
-use Rattle.carrying.specs.Line.{Line}
-use Rattle.carrying.specs.Lines.{highest, next_lines}
+use Rattle.carrying.specs.NextRecord.{NextRecord}
+use Rattle.carrying.specs.NextRecords.{highest, next_records}
 use Rattle.carrying.specs.NewSheet.{new_sheet}
 
 -- refusals 1 to 4 of the old sheet, 5 and 6 of the state, 7 where the stage is not 4
@@ -29,17 +29,17 @@ sizes_differ sheet state =
     not (eqb (Sheet.interties sheet) (Layout.interties state) && eqb (Sheet.holders sheet) (Layout.holders state))
 
 -- refusal 14: over 1,024 records; a holder's rank over 255; an output that is too short
-unfoldable pub does_not_fit : ℕ → List Line → ℕ → Bool
-does_not_fit H lines room =
-    ltb most_records (length lines)
-    || not (all_to H (λ h. leb (highest h lines) most_rank))
-    || ltb room (size_of (length lines))
+unfoldable pub does_not_fit : ℕ → List NextRecord → ℕ → Bool
+does_not_fit H records room =
+    ltb most_records (length records)
+    || not (all_to H (λ h. leb (highest h records) most_rank))
+    || ltb room (size_of (length records))
 
 -- the lowest refusal that applies, 0 where the sheet is carried
 unfoldable pub carry_refusal : List ℕ → List ℕ → List ℕ → ℕ
 carry_refusal sheet state output =
     or_else (early_refusal sheet state)
-    (whenever (sizes_differ sheet state || does_not_fit (Layout.holders state) (next_lines sheet state) (length output)) carry_refused)
+    (whenever (sizes_differ sheet state || does_not_fit (Layout.holders state) (next_records sheet state) (length output)) carry_refused)
 
 -- what carry answers, and what stands in the output then
 pub record Carried : Type 0 where
@@ -53,6 +53,6 @@ carried sheet state output =
     (record {
       answer = granted 0 0;
       output =
-          with_sheet (new_sheet (Layout.interties state) (Layout.holders state) (next_lines sheet state)) output;
+          with_sheet (new_sheet (Layout.interties state) (Layout.holders state) (next_records sheet state)) output;
     })
     (record { answer = refused (carry_refusal sheet state output); output = output })

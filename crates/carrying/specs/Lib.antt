@@ -1,5 +1,5 @@
-pub mod Line
-pub mod Lines
+pub mod NextRecord
+pub mod NextRecords
 pub mod NewSheet
 pub mod Carry
 pub mod Workers

@@ -7,8 +7,8 @@ ghost use Rattle.sheet_records.specs.Sheet.{count, size_of};
 ghost use Rattle.sheet_records.specs.Bytes.{sheet_bytes, with_sheet};
 ghost use Rattle.sheet_records.specs.Refusal.{bad_length};
 ghost use Rattle.state.specs.Layout.{interties, holders};
-ghost use Rattle.carrying.specs.Line.{Line};
-ghost use Rattle.carrying.specs.Lines.{kept_of, kept, with_lock, with_locks_of, with_locks};
+ghost use Rattle.carrying.specs.NextRecord.{NextRecord};
+ghost use Rattle.carrying.specs.NextRecords.{kept_of, kept, with_lock, with_locks_of, with_locks};
 ghost use Rattle.carrying.specs.Carry.{does_not_fit};
 ghost use Rattle.carrying.specs.Workers.Draft.{places, with_record, DraftOf, Adds};
 
@@ -74,16 +74,16 @@ impl Draft {
     }
 
     // Drafts a record of the old sheet, if it goes on.
-    fn keep(&mut self, line: Record)
+    fn keep(&mut self, old_record: Record)
         requires { length self.old.keys < places }
-        ensures { Adds (λ (lines : List Line). lines ++ kept_of line.key line.kw) self.old self.new }
+        ensures { Adds (λ (records : List NextRecord). records ++ kept_of old_record.key old_record.kw) self.old self.new }
     {
         self.put(
-            key::goes_on(line.key),
-            key::next_key(line.key),
-            line.kw,
-            Key::from(line.key).holder as usize,
-            key::new_use_rank(line.key),
+            key::goes_on(old_record.key),
+            key::next_key(old_record.key),
+            old_record.kw,
+            Key::from(old_record.key).holder as usize,
+            key::new_use_rank(old_record.key),
         );
     }
 
@@ -146,7 +146,7 @@ impl Draft {
     // Whether a draft is no sheet: over 1,024 records, a rank over 255, or an output that is too short.
     pub(crate) fn does_not_fit(&self, holders: usize, room: usize) -> bool
         requires { holders ≤ most_holders }
-        ensures { (lines : List Line) → DraftOf lines self.now → result ≡ does_not_fit holders lines room }
+        ensures { (records : List NextRecord) → DraftOf records self.now → result ≡ does_not_fit holders records room }
     {
         (MOST_RECORDS < self.count)
             | self.ranks[..holders].iter().any(|rank| MOST_RANK < *rank)

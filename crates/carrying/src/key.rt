@@ -1,8 +1,8 @@
 // What becomes of a key in the next year.
 ghost use Rattle.std.specs.Prelude.{◌≡◌};
 ghost use Rattle.sheet_keys.specs.Key.{holder_of};
-ghost use Rattle.carrying.specs.Lines.{yearless, goes_on, next_years, next_line, rank_for};
-ghost use Rattle.carrying.specs.Workers.Draft.{line_key};
+ghost use Rattle.carrying.specs.NextRecords.{yearless, goes_on, next_years, next_record, rank_for};
+ghost use Rattle.carrying.specs.Workers.Draft.{record_key};
 
 use base::kinds::Kind;
 use sheet_keys::key::Key;
@@ -35,7 +35,7 @@ fn next_years(key: u32) -> u32
 
 // The key of a record that goes on, taken apart and put together again.
 pub(crate) fn next_key(key: u32) -> u32
-    ensures { result ≡ line_key (next_line key 0) }
+    ensures { result ≡ record_key (next_record key 0) }
 {
     u32::from(Key {
         years: next_years(key),
@@ -46,7 +46,7 @@ pub(crate) fn next_key(key: u32) -> u32
 // The rank of a New Use commitment, 0 of a key of another kind. (0 raises no holder's highest rank; an Option would be taken apart
 // for `max`.)
 pub(crate) fn new_use_rank(key: u32) -> u32
-    ensures { result ≡ rank_for (holder_of key) (next_line key 0) }
+    ensures { result ≡ rank_for (holder_of key) (next_record key 0) }
 {
     let fields = Key::from(key);
     if fields.kind == Kind::NewUseCommitment.number() {

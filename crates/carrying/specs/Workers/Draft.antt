@@ -3,16 +3,16 @@ use Rattle.std.specs.Prelude.{ℕ, ◌+◌, ◌≤◌, ◌<◌, ◌≡◌, max, 
 use Rattle.base.specs.Limits.{most_records, most_pairs, most_rank}
 use Rattle.base.specs.Words.{at}
 use Rattle.sheet_keys.specs.Key.{key_holders, cut_key}
-use Rattle.carrying.specs.Line.{Line, quantity_of}
-use Rattle.carrying.specs.Lines.{highest}
+use Rattle.carrying.specs.NextRecord.{NextRecord, quantity_of}
+use Rattle.carrying.specs.NextRecords.{highest}
 
 -- the places of a draft: those of 1,024 old records, and of a lock for each pair
 abbrev pub places : ℕ
 places = most_records + most_pairs
 
--- the key of a line, its fields cut to their widths
-abbrev pub line_key : Line → ℕ
-line_key l = cut_key l.kind l.holder l.intertie l.rank l.years
+-- the key of a record, its fields cut to their widths
+abbrev pub record_key : NextRecord → ℕ
+record_key l = cut_key l.kind l.holder l.intertie l.rank l.years
 
 -- what is drafted
 pub record Drafted : Type 0 where
@@ -37,13 +37,13 @@ abbrev pub with_record : ℕ → ℕ → ℕ → ℕ → Drafted → Drafted
 with_record key kw holder rank d =
     record { keys = d.keys ++ key ∷ []; kws = d.kws ++ kw ∷ []; ranks = slice_set d.ranks holder (max (at d.ranks holder) rank) }
 
--- a draft is that of a list of lines
-pub record DraftOf (lines : List Line) (d : Drafted) : Type 0 where
-  pub keys-are : d.keys ≡ map line_key lines
-  pub kws-are : d.kws ≡ map quantity_of lines
+-- a draft is that of a list of records
+pub record DraftOf (records : List NextRecord) (d : Drafted) : Type 0 where
+  pub keys-are : d.keys ≡ map record_key records
+  pub kws-are : d.kws ≡ map quantity_of records
   pub sized : length d.ranks ≡ key_holders
-  pub rank_is : (h : ℕ) → h < key_holders → at d.ranks h ≡ highest h lines
+  pub rank_is : (h : ℕ) → h < key_holders → at d.ranks h ≡ highest h records
 
--- a draft of any lines becomes one of what a function makes of them
-abbrev pub Adds : (List Line → List Line) → Drafted → Drafted → Type 0
-Adds f before after = (lines : List Line) → DraftOf lines before → DraftOf (f lines) after
+-- a draft of any records becomes one of what a function makes of them
+abbrev pub Adds : (List NextRecord → List NextRecord) → Drafted → Drafted → Type 0
+Adds f before after = (records : List NextRecord) → DraftOf records before → DraftOf (f records) after

@@ -1,6 +1,6 @@
 -- `Draft::add_holder_locks` meets its contract: after i interties the draft has the holder's locks on them.
 use Rattle.base.proofs.Prelude.{◌+◌, ◌*◌, ◌≤◌, length}
-use Rattle.carrying.specs.Lines.{with_locks_of}
+use Rattle.carrying.specs.NextRecords.{with_locks_of}
 use Rattle.carrying.specs.Workers.Draft.{Adds}
 use Rattle.carrying.proofs.draft.Draft.add_holder_locks.Given as goal
 

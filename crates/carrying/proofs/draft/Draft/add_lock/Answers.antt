@@ -1,4 +1,4 @@
--- `Draft::add_lock` meets its contract: the pair's lock is one line more (`DraftLaws`).
+-- `Draft::add_lock` meets its contract: the pair's lock is one record more (`DraftLaws`).
 use Rattle.base.proofs.Prelude.{◌+◌, ap, arith, at, [], ◌∷◌, length}
 use lib.ListN.{length-append}
 use Rattle.carrying.specs.Workers.Draft.{Drafted}

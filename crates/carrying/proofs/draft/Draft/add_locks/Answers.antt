@@ -1,6 +1,6 @@
 use Rattle.base.proofs.Prelude.{◌≡◌, arith, rules}
 use Rattle.state.specs.Layout.{holders}
-use Rattle.carrying.specs.Lines.{with_locks}
+use Rattle.carrying.specs.NextRecords.{with_locks}
 use Rattle.std.proofs.Common.{add-one}
 use Rattle.carrying.proofs.draft.Draft.add_locks.Goals as goal
 

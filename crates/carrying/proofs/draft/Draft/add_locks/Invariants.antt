@@ -1,6 +1,6 @@
 -- `Draft::add_locks` meets its contract: after h holders the draft has their locks.
 use Rattle.base.proofs.Prelude.{◌+◌, ◌*◌, ◌≤◌, length}
-use Rattle.carrying.specs.Lines.{with_locks}
+use Rattle.carrying.specs.NextRecords.{with_locks}
 use Rattle.carrying.specs.Workers.Draft.{Adds}
 use Rattle.carrying.proofs.draft.Draft.add_locks.Given as goal
 

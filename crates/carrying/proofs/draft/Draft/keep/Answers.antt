@@ -1,4 +1,4 @@
--- `Draft::keep` meets its contract: the record is one line more, or none (`DraftLaws`).
+-- `Draft::keep` meets its contract: what goes on of the record is one record more, or nothing (`DraftLaws`).
 use Rattle.carrying.proofs.DraftLaws.{record_drafted}
 use Rattle.carrying.proofs.draft.Draft.keep.Goals as goal
 

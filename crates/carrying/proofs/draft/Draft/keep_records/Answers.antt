@@ -1,5 +1,5 @@
 use Rattle.base.proofs.Prelude.{refl, ◌∙◌, arith, length}
-use Rattle.carrying.specs.Lines.{kept}
+use Rattle.carrying.specs.NextRecords.{kept}
 use Rattle.sheet_records.proofs.RefusalLaws.{whole}
 use Rattle.sheet_records.proofs.ReadingLaws.{record-read, all-read, one-more}
 use Rattle.carrying.proofs.DraftLaws.{kept-room, kept_next}
