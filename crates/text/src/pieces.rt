@@ -6,7 +6,7 @@ ghost use Rattle.text.specs.Pieces.{before, fields};
 ghost use Rattle.text.specs.Left.{pieces_left};
 
 // How many bytes stand before the first separator; all of them where there is none.
-pub fn before(text: &[u8], separator: u8) -> usize
+fn before(text: &[u8], separator: u8) -> usize
     ensures { (result ≡ before separator text.now) × IsPrefixLen result text.now }
 {
     text.iter()

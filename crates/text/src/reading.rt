@@ -1,5 +1,5 @@
 // A text read as a number.
-ghost use Rattle.std.specs.Prelude.{◌≡◌, true, ◌<◌, length};
+ghost use Rattle.std.specs.Prelude.{◌≡◌};
 ghost use Rattle.text.specs.Decimal.{all_digits, number_of};
 
 // Why a text is no number of 32 bits.
@@ -11,7 +11,7 @@ pub enum NumberError {
     Bad,
 }
 
-// The whole text as a number in decimal digits.
+// The whole text as a number in decimal digits. (All bytes are tested first: the library reads a plus too.)
 pub fn read_number(text: &[u8]) -> Result<u32, NumberError>
     ensures { result ≡ number_of text.now }
 {
@@ -21,27 +21,14 @@ pub fn read_number(text: &[u8]) -> Result<u32, NumberError>
     if !all_digits(text) {
         return Err(NumberError::Bad);
     }
-    digits_value(text)
+    let Ok(digits) = str::from_utf8(text) else {
+        return Err(NumberError::Bad);
+    };
+    u32::from_str_radix(digits, 10).or(Err(NumberError::Over))
 }
 
 fn all_digits(text: &[u8]) -> bool
     ensures { result ≡ all_digits text.now }
 {
     text.iter().all(u8::is_ascii_digit)
-}
-
-// The number that digits are. The value of the digits read so far is below 2^32. (By hand: `parse` takes a sign too, and of its
-// fault the clause tells apart too large and no digits.)
-fn digits_value(text: &[u8]) -> Result<u32, NumberError>
-    requires { (0 < length text.now) × (all_digits text.now ≡ true) }
-    ensures { result ≡ number_of text.now }
-{
-    let mut value = 0;
-    for byte in text {
-        value = 10 * value + u64::from(*byte - b'0');
-        if u64::from(u32::MAX) < value {
-            return Err(NumberError::Over);
-        }
-    }
-    Ok(value as u32)
 }

@@ -3,7 +3,6 @@ ghost use Rattle.std.specs.Prelude.{◌≡◌, ◌+◌, ◌*◌, ◌≤◌, ◌+
 ghost use Rattle.text.specs.Written.{appended};
 ghost use Rattle.text.specs.Lines.{line_figures, figure_bytes, line_bytes, figure, figures_of, bounded_line};
 
-use crate::LINE_BYTES;
 use arrayvec::ArrayVec;
 use itoa::Buffer;
 
@@ -11,9 +10,12 @@ const LABEL_BYTES: usize = 20;
 
 const FIGURES: usize = 8;
 
+// Room for a line: its label, its figures of at most 20 digits, each after a separator, and a line end.
+const LINE_BYTES: usize = 189;
+
 // A line. It is empty where the label has over 20 bytes or there are over 8 figures; an Option would be no plainer, since
 // `put_line` puts nothing then.
-pub fn line(label: &[u8], separator: u8, figures: &[u64]) -> ArrayVec<u8, LINE_BYTES>
+fn line(label: &[u8], separator: u8, figures: &[u64]) -> ArrayVec<u8, LINE_BYTES>
     ensures { result.items ≡ bounded_line label.now separator figures.now }
 {
     let mut line = ArrayVec::new();
@@ -39,7 +41,7 @@ pub fn put_line<const N: usize>(
 
 // Puts a separator and a number in decimal after a text.
 #[tactic(auto, using(crate::proofs::PutLaws::figure_put, crate::proofs::PutLaws::figure_over))]
-pub fn put_figure<const N: usize>(number: u64, separator: u8, out: &mut ArrayVec<u8, N>)
+fn put_figure<const N: usize>(number: u64, separator: u8, out: &mut ArrayVec<u8, N>)
     ensures { out.new.items ≡ appended N (figure separator number) out.old.items }
 {
     let mut buffer = Buffer::new();
@@ -51,7 +53,7 @@ pub fn put_figure<const N: usize>(number: u64, separator: u8, out: &mut ArrayVec
 }
 
 // Puts a text after another.
-pub fn put_text<const N: usize>(text: &[u8], out: &mut ArrayVec<u8, N>)
+fn put_text<const N: usize>(text: &[u8], out: &mut ArrayVec<u8, N>)
     ensures { out.new.items ≡ appended N text.now out.old.items }
 {
     let _ = out.try_extend_from_slice(text);
