@@ -41,5 +41,5 @@ impl<'a> Iterator for Words<'a> {
 fn is_blank(byte: u8) -> bool
     ensures { result ≡ is_blank byte }
 {
-    (byte == b' ') | (byte == b'\t') | (byte == b'\r')
+    matches!(byte, b' ' | b'\t' | b'\r')
 }
