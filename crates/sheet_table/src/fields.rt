@@ -59,9 +59,8 @@ fn read_numbers<const N: usize>(
     requires { (column ≤ 2) × (N ≤ fields_past_kind) }
     ensures { result ≡ numbers_in column limits.now (pieces_left fields.old) }
 {
-    let mosts: &[u32] = limits;
     let mut numbers = [0u32; N];
-    for (i, most) in mosts.iter().enumerate() {
+    for (i, most) in limits.iter().enumerate() {
         let Some(field) = fields.next() else {
             return Err(Flaw {
                 column: column + i,
@@ -125,14 +124,14 @@ fn read_entry_of(kind: u32, fields: &mut Pieces) -> Result<Record, Flaw>
     requires { kind < key_kinds }
     ensures { result ≡ entry_of kind (pieces_left fields.old) }
 {
-    let mosts = [
+    let limits = [
         key::HOLDER_MASK,
         key::INTERTIE_MASK,
         key::RANK_MASK,
         key::YEARS_MASK,
         u32::MAX,
     ];
-    let values = read_numbers(fields, 2, &mosts)?;
+    let values = read_numbers(fields, 2, &limits)?;
     Ok(Record {
         key: pack(Key {
             kind,

@@ -9,7 +9,7 @@ returns-then-bad_length c = none-tabled _ _ c.bad_length.ensures c.if-bad_length
 pub put_rows-requires : goal.put_rows-requires
 put_rows-requires c = (
   passes _ _ c.bad_length.ensures c.if-bad_length.false,
-  first-short _ _ c.bad_length.ensures c.if-bad_length.false _ _ c.intertie_count-interties.ensures c.holder_count-holders.ensures (search rules) (search rules) _ _ c.new-table.ensures c.put_sizes.ensures,
+  first-short _ _ (search rules) (search rules) _ _ c.new-table.ensures c.put_sizes.ensures,
 )
 
 pub returns : goal.returns

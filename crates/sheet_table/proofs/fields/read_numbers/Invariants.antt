@@ -7,6 +7,6 @@ use Rattle.sheet_table.proofs.fields.read_numbers.Given as goal
 
 abbrev pub invariant-loop-i : goal.invariant-loop-i
 invariant-loop-i g l =
-    (length l.mosts ≡ g.row.N)
+    (length l.limits ≡ g.row.N)
     × (length l.numbers ≡ g.row.N)
-    × (numbers_in l.column l.mosts (pieces_left l.initial.fields) ≡ after (take l.i l.numbers) (numbers_in (l.column + l.i) (drop l.i l.mosts) (pieces_left l.fields)))
+    × (numbers_in l.column l.limits (pieces_left l.initial.fields) ≡ after (take l.i l.numbers) (numbers_in (l.column + l.i) (drop l.i l.limits) (pieces_left l.fields)))
