@@ -1,5 +1,5 @@
-// What every program does: it reads a file whole, takes the names that it is called with, and says on standard
-// error what went wrong.
+// What every program does: it reads a file whole, with room for a sheet, takes the names that it is called with, and says
+// on standard error what went wrong.
 #![tactic(auto)]
 
 mod reason;
@@ -9,11 +9,15 @@ ghost use Rattle.std.specs.Io.KnownBytes.{Consumes, IsAtEnd};
 ghost use Rattle.io.specs.Counts.{IsPrefixLen};
 ghost use Rattle.input.specs.Counts.{read_count};
 
+use base::limits::MOST_SHEET_BYTES;
 use reason::Reason;
 use std::env::FillError;
 use std::fs;
 use std::io::Error;
 use std::rt::{Env, Files};
+
+// Room for the longest sheet and for one byte more, by which a longer file is told from it.
+pub const SHEET_ROOM: usize = MOST_SHEET_BYTES + 1;
 
 // The system's numbers of errors: there is no such argument, a name is too long, a name isn't text. (By number and not
 // by `ErrorKind`: the system's text for the number is printed.)

@@ -2,15 +2,12 @@
 // test runs it on the sheet of case i, crates/post/stdin.
 #![tactic(auto)]
 
-use base::limits::MOST_SHEET_BYTES;
-use input::say;
+use input::{SHEET_ROOM, say};
 use std::io;
 
-// Room for the longest sheet and for one byte more, by which a longer input is told from it, and is refused.
-const SHEET_ROOM: usize = MOST_SHEET_BYTES + 1;
-
-// Reads a sheet from standard input and prints its posting, or `R` and the number of its refusal. Where it can't
-// be read or printed, standard error says so. (Without the system's reason: its two lines are held by tests/programs.)
+// Reads a sheet from standard input and prints its posting, or `R` and the number of its refusal; so is a longer input refused, of
+// which the room takes a byte more than a sheet has. Where it can't be read or printed, standard error says so. (Without the
+// system's reason: its two lines are held by tests/programs.)
 fn main(rt: HostRuntime) {
     let mut sheet = [0u8; SHEET_ROOM];
     let Ok(count) = input::read_whole(&mut rt.stdin(), &mut sheet) else {

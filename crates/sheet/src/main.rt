@@ -2,18 +2,15 @@
 // output; with a sheet's file name as its argument it prints the sheet's text.
 #![tactic(auto)]
 
-use base::limits::MOST_SHEET_BYTES;
-use input::{fail, say};
+use input::{SHEET_ROOM, fail, say};
 use std::io::Read;
 use std::rt::{Env, Files};
 
 // The longest text that is read.
 const MOST_TEXT_BYTES: usize = 131_072;
 
-// Room for it and for one byte more, by which a longer one is told from it; and the same for a sheet.
+// Room for it and for one byte more, by which a longer one is told from it.
 const TEXT_ROOM: usize = MOST_TEXT_BYTES + 1;
-
-const SHEET_ROOM: usize = MOST_SHEET_BYTES + 1;
 
 // The longest name of a file that an argument can give.
 const NAME_ROOM: usize = 4_096;

@@ -31,7 +31,7 @@ pub(super) enum Failure {
 }
 
 impl Failure {
-    // Says it on standard error, in a line.
+    // Says it on standard error, in a line. (No Display: the name in it is bytes that may be no text, which a formatter can't write.)
     pub(super) fn report(self, env: &impl Env, stderr: &impl Print) {
         match self {
             Failure::Usage => say(stderr, b"usage: year SHEET JOURNAL [NEXT-SHEET]\n"),

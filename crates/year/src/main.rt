@@ -13,7 +13,7 @@ use base::encoding::CALL_WORDS;
 use base::limits::{MOST_SHEET_BYTES, STATE_WORDS};
 use control_room::Called;
 use faults::Failure;
-use input::has_argument;
+use input::{SHEET_ROOM, has_argument};
 use journal::sizes::{ANSWERS_WORDS, CALLS_WORDS, MOST_JOURNAL_BYTES};
 use running::Calls;
 use std::rt::{Env, Files};
@@ -27,9 +27,7 @@ const JOURNAL: usize = 2;
 
 const NEXT_SHEET: usize = 3;
 
-// Room for the longest sheet and for one byte more, by which a longer file is told from it; and the same for a journal.
-const SHEET_ROOM: usize = MOST_SHEET_BYTES + 1;
-
+// Room for the longest journal and for one byte more, by which a longer file is told from it.
 const JOURNAL_ROOM: usize = MOST_JOURNAL_BYTES + 1;
 
 // Runs the year of the files that the arguments name.
@@ -81,7 +79,8 @@ fn run_list<R: Env + Files + Print>(rt: &R, sheet: &[u8], calls: Calls<'_>) -> R
 }
 
 // Opens the sheet, runs the calls and prints the year, or the refusal of the sheet. (Standard output and the text's room are two, here
-// and below: a struct of both would be lent again at each call.)
+// and below: a struct of both would be lent again at each call. The refusal's words are made here: an `Answer` of it would be taken
+// apart into the same three.)
 fn print_year(
     stdout: &impl Print,
     sheet: &[u8],

@@ -13,8 +13,9 @@ use base::limits::GRANTS_WORDS;
 use journal::sizes::{ANSWERS_WORDS, CALLS_WORDS};
 use year_text::{MOST_ANSWERS, TEXT_BYTES};
 
-// The calls of a journal: the first words are theirs. (With the count of calls, as reading a journal answers it: a stretch goes
-// from a call to a call.)
+// The calls of a journal: the first words are theirs. (With the count of calls, as reading a journal answers it, where control_room's
+// `Called` has none: a stretch goes from a call to a call, and of words that end with the calls the count would be found again by a
+// division, here and in each stretch.)
 #[derive(Clone, Copy)]
 pub(super) struct Calls<'a> {
     pub words: &'a [u32; CALLS_WORDS],
