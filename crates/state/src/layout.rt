@@ -68,7 +68,8 @@ pub const TERM: u32 = 205;
 
 pub const PENDING: u32 = 237;
 
-// The last row that a field may begin at: that of the pairs' field after pending, which is kept free.
+// The last row that the layout names. Behind pending's rows as many are kept free, and it is the last of these; no field begins
+// behind it.
 pub const LAST_ROW: usize = (PENDING as usize) + 2 * MOST_HOLDERS - 1;
 
 // The rows that a state of 16,000 words has whole.
