@@ -1,2 +1,3 @@
 pub mod RowLaws
+pub mod RowParts
 pub mod FitLaws

@@ -6,7 +6,7 @@ use mathlib.Core.Logic.{◌≢◌, ◌⊎◌, inl, inr, ⊎_elim}
 use native.Mathlib.Nat.{not-suc-le-zero, le_step, lt-suc_self}
 use native.Mathlib.Numerals.{add-one}
 use native.Mathlib.Omega.{arith}
-use lib.ListN.{length, set, length-set}
+use lib.ListN.{length, length-set}
 use Rattle.base.specs.Words.{at}
 use Rattle.base.proofs.SumLaws.{below_suc}
 use Rattle.base.specs.Limits.{state_words}
@@ -51,16 +51,6 @@ at-fill_row-past row zero f s r c most l past = refl
 at-fill_row-past row (suc n) f s r c most l past =
     at-other-column (fill_row row n f s) row n (f n) r c most l (omega arith)
     ∙ at-fill_row-past row n f s r c (omega arith) l (omega arith)
-
--- a turn of a loop that writes a row
-pub fill_row-turn : (row n : ℕ) (f : ℕ → ℕ) (s g : List ℕ) (x : ℕ) → g ≡ fill_row row n f s → x ≡ f n →
-    set g (place row n) x ≡ fill_row row (n + 1) f s
-unfolding fill_row
-fill_row-turn row n f s g x e h = rw (add-one n, e, h)
-
-pub fill_row-none : (row : ℕ) (f : ℕ → ℕ) (s : List ℕ) → fill_row row 0 f s ≡ s
-unfolding fill_row
-fill_row-none row f s = refl
 
 -- the same values write the same row
 pub fill_row-same : (row n : ℕ) (f g : ℕ → ℕ) (s : List ℕ) → ((c : ℕ) → c < n → f c ≡ g c) → fill_row row n f s ≡ fill_row row n g s

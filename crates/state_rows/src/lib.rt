@@ -72,9 +72,7 @@ impl Change for Cleared {
     }
 }
 
-// Changes the first columns of a row by a table, from one of its places on. (By an index: what is said is of the state's own places,
-// and a row lent by itself would have to be put back among them.)
-#[tactic(auto, unfolding(crate::specs::Rows::fill_row))]
+// Changes the first columns of a row by a table, from one of its places on.
 fn change_row<C: Change>(state: &mut [u32], row: usize, count: usize, table: &C, from: usize)
     requires { (state_words ≤ length state.old) × (row < whole_rows) × (count ≤ row_words) × (from + count ≤ C.places table.now)
         × (from + count < 2 ^ 64) }
@@ -82,8 +80,8 @@ fn change_row<C: Change>(state: &mut [u32], row: usize, count: usize, table: &C,
         ≡ fill_row row count (λ c. C.gives table.now (at s (place row c)) (from + c)) s }
 {
     let first = ROW_WORDS * row;
-    for column in 0..count {
-        state[first + column] = table.change(state[first + column], from + column);
+    for (column, word) in state[first..first + count].iter_mut().enumerate() {
+        *word = table.change(*word, from + column);
     }
 }
 
