@@ -1,13 +1,13 @@
 -- A row as a list of its words, and what a chain over it comes to.
-use Rattle.std.proofs.Common.{◌≡◌, ℕ, ◌+◌, ◌-◌, ◌*◌, ◌%◌, ◌^◌, ◌<◌, ◌≤◌, true, ◌&&◌, eqb, leb, List, [], ◌∷◌, length, refl, sym, ap, ◌∙◌, arith, mod-eq_of_lt}
-use Rattle.std.specs.List.{fold, list_all}
+use Rattle.std.proofs.Common.{◌≡◌, ℕ, ◌+◌, ◌-◌, ◌<◌, ◌≤◌, true, ◌&&◌, eqb, leb, List, [], ◌∷◌, length, refl, sym, ap, ◌∙◌, arith}
+use Rattle.std.specs.List.{fold, list_all, sum}
 use lib.Bits.{bit_or}
 use mathlib.Core.Bool.{and_assoc, and-true}
 use borrow.Rule.Slice.PartMut.{mid_of, mid_len}
 use Rattle.base.specs.Sums.{sum_to, all_to}
 use Rattle.base.specs.Words.{at, tab}
-use Rattle.base.proofs.ListLaws.{fold_turns, fold_wraps, all_places}
-use Rattle.base.proofs.SumLaws.{sum_to-same, sum_to-bound, all_to-same}
+use Rattle.base.proofs.ListLaws.{fold_turns, all_places}
+use Rattle.base.proofs.SumLaws.{sum_to-zero, sum_to-suc, sum_to-same, all_to-same}
 use Rattle.base.proofs.TestLaws.{or-none}
 use Rattle.base.proofs.VectorLaws.{at_mid}
 use Rattle.base.proofs.WordLaws.{at-tab, tab-at, tab-same}
@@ -37,12 +37,11 @@ clear_from bits (word ∷ row) =
 pub all-clear : (row : List ℕ) → eqb (fold (λ bits word. bit_or bits word) 0 row) 0 ≡ all_to (length row) (λ c. leb (at row c) 0)
 all-clear row = clear_from 0 row ∙ all_places (λ word. leb word 0) row
 
--- their sum, which passes no 64 bits
-pub summed : (row : List ℕ) → length row ≤ 48 → ((i : ℕ) → at row i < 2 ^ 32) →
-    fold (λ sum word. (sum + word) % 2 ^ 64) 0 row ≡ sum_to (length row) (at row)
-summed row few small =
-    let bound : sum_to (length row) (at row) ≤ length row * 4294967295 = sum_to-bound (length row) 4294967295 (at row) (λ i l. omega (arith, small i)) in
-    fold_wraps row ∙ mod-eq_of_lt (omega (arith, bound))
+-- their sum
+pub summed : (row : List ℕ) → sum row ≡ sum_to (length row) (at row)
+summed row =
+    ap (λ n. fold (λ sum word. sum + word) n row) (sym (sum_to-zero (at row)))
+    ∙ fold_turns (λ sum word. sum + word) (λ i. sum_to i (at row)) row (λ i l. sym (sum_to-suc i (at row)))
 
 -- what is said of the words of a row, of the state's
 module _ (n : ℕ) (f : ℕ → ℕ) (row : List ℕ) (is : (length row ≡ n) × (row ≡ tab n f)) where

@@ -17,7 +17,8 @@ use state::layout;
 // 2^25: more than a limit may be.
 const TOO_MANY_KW: u32 = 33_554_432;
 
-// KW that stand against an intertie's limit, in 32 bits, and the bits of the words that make them up, with those of each pair's kW.
+// The kW of one pair or more that stand against an intertie's limit: their sum, in 32 bits, and the bits of each pair's words and
+// of each pair's own sum, put together by `|`. The bits are below 2^25 where all of these are, and then no pair's sum has wrapped.
 #[derive(Clone, Copy)]
 struct Kw {
     sum: u32,

@@ -119,12 +119,10 @@ pub(super) fn is_clear(words: &[u32]) -> bool
     words.iter().fold(0, |bits, word| bits | *word) == 0
 }
 
-// Their sum.
+// Their sum. (Not base's `sum_of`, which is of numbers of 64 bits and modulo 2^64: the words of a row are so few that their sum fits.)
 pub(super) fn sum(words: &[u32]) -> u64
     requires { length words.now ≤ row_words }
     ensures { let row = words.now in result ≡ sum_to (length row) (at row) }
 {
-    words
-        .iter()
-        .fold(0, |sum, word| sum.wrapping_add(u64::from(*word)))
+    words.iter().map(|word| u64::from(*word)).sum()
 }
