@@ -9,12 +9,14 @@ use native.Mathlib.Omega.{arith}
 use borrow.Author.Tests.{le-leb, lt-leb, leb-true, leb-false, ne_eqb, eqb-true, not-false}
 use Rattle.std.specs.List.{list_any}
 use Rattle.base.proofs.ChoiceLaws.{and_left, and_right}
-use Rattle.state.specs.Layout.{interties, holders}
+use Rattle.state.specs.Layout.{interties, holders, stage_of}
+use Rattle.state.specs.Orderly.{state_refusal}
 use Rattle.base.specs.Stage.{number_of}
 use Rattle.base.specs.declared.stages.Stage.{Stage}
 use Rattle.base.specs.declared.stages.Stage.TheVariants.{Trading, FirstRequests, SecondRequests}
+use Rattle.call.proofs.LadderLaws.{none_first, none-second, not-whenever}
 use Rattle.call.specs.InStage.{is_in}
-use Rattle.call.specs.Tests.{no_holder, no_intertie, bad_kw, bad_term}
+use Rattle.call.specs.Tests.{open_refusal, no_holder, no_intertie, bad_kw, bad_term}
 
 -- the one stage, or one of the two, in which a call may be made
 pub one-stage : (stage a : ℕ) → not (eqb stage a) ≡ false → stage ≡ a
@@ -30,6 +32,13 @@ either-stage stage a b e =
       | inl first ↦ inl (eqb-true stage a first)
       | inr second ↦ inr (eqb-true stage b second)
     ]
+
+-- a state of stage 4 that no refusal from 5 to 7 applies to
+pub open-none : (s : List ℕ) → open_refusal s ≡ 0 → (state_refusal s ≡ 0) × (stage_of s ≡ 4)
+open-none s e = (
+  none_first (state_refusal s) _ e,
+  one-stage (stage_of s) 4 (not-whenever (not (eqb (stage_of s) 4)) 7 (omega arith) (none-second (state_refusal s) _ e)),
+)
 
 -- a holder and an intertie that the state has
 pub is-holder : (s : List ℕ) (h : ℕ) → no_holder s h ≡ false → h < holders s

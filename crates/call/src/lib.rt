@@ -28,7 +28,8 @@ pub fn check_open(state: &[u32]) -> Result<(), Refusal>
     refuse_if(!is_stage(state, Stage::Open), Refusal::Stage)
 }
 
-// Whether a state is of a stage.
+// Whether a state is of a stage. (By the number: a word made a `Stage` first may name none, which would be one case more with the
+// same answer.)
 pub fn is_stage(state: &[u32], stage: Stage) -> bool
     ensures { result ≡ eqb (stage_of state.now) (number_of stage) }
 {
@@ -71,7 +72,8 @@ pub fn unfit_parties(state: &[u32], first: u32, second: u32) -> bool
     no_holder(state, first) | no_holder(state, second) | (first == second)
 }
 
-// Refusal 9: whether kW are not 1 to 20,000,000.
+// Refusal 9: whether kW are not 1 to 20,000,000. (This and `bad_term` share but `contains`: their limits differ, and so do their
+// types, 64 bits and 32.)
 pub fn bad_kw(kw: u64) -> bool
     ensures { result ≡ bad_kw kw }
 {

@@ -1,12 +1,12 @@
 -- A lock that is done: what it finds where no refusal applies, and what it changes. The state after it is orderly.
 use Prim.Native.Nat.{ℕ, ◌+◌, ◌*◌, ◌≤◌, ◌<◌}
 use mathlib.Core.Path.{◌≡◌, ap, ◌∙◌}
-use mathlib.Core.Bool.{not, ◌||◌}
+use mathlib.Core.Bool.{◌||◌}
 use mathlib.Core.List.{List}
 use mathlib.Core.Logic.{◌≢◌}
 use native.Mathlib.Decide.{ℕ_discrete}
 use native.Mathlib.Omega.{arith}
-use lib.Dec.{ltb, eqb}
+use lib.Dec.{ltb}
 use lib.ListN.{length, set, length-set}
 use borrow.Author.Tests.{ltb-false}
 use Rattle.base.specs.Sums.{sum_to}
@@ -15,12 +15,11 @@ use Rattle.base.proofs.SumLaws.{sum_to-bound}
 use Rattle.base.proofs.ChoiceLaws.{or_left, or_right}
 use Rattle.base.specs.Limits.{state_words}
 use Rattle.state.specs.Layout.{interties, holders, stage_of, step7_total_of, reserved_of, unassigned_of, unplaced_of, placed_of, taken_of, locked_at, locked_of, term_at, term_of, on_intertie, of_holder}
-use Rattle.state.specs.Orderly.{state_refusal}
 use Rattle.state.proofs.OrderlyLaws.{Orderly, refusal-none}
 use Rattle.state.proofs.FrameLaws.{SameRows, SameOpening, same-trans, same-within, same-store-below, same-store-past, same-interties, same-pair, at_stored, at-apart, at-other-row, row-sum-stored, row-sum-apart}
-use Rattle.call.specs.Tests.{no_holder, no_intertie, bad_kw, bad_term}
+use Rattle.call.specs.Tests.{open_refusal, no_holder, no_intertie, bad_kw, bad_term}
 use Rattle.call.proofs.LadderLaws.{none_first, none-second, not-whenever, not_first}
-use Rattle.call.proofs.TestLaws.{is-holder, is-intertie, one-stage, kw-in-range, term-in-range}
+use Rattle.call.proofs.TestLaws.{open-none, is-holder, is-intertie, kw-in-range, term-in-range}
 use Rattle.call.proofs.KeptLaws.{SameRequests, on-intertie-same, same-unplaced, same-unplaced-sum, pending-after, no-pending-after, sellers-after, orderly-after}
 use Rattle.holding.specs.Lock.{past_three_quarters, lock_refusal, lock_state}
 
@@ -49,18 +48,18 @@ unfolding lock_refusal
 lock-done s h i kw term e =
     let held = ltb 0 (locked_of s h i) in
     let past = past_three_quarters s h kw in
-    let rung7 = not_first (not (eqb (stage_of s) 4)) 7 _ (omega arith) (none-second (state_refusal s) _ e) in
-    let rung8 = not_first (no_holder s h || no_intertie s i) 8 _ (omega arith) rung7.1 in
+    let rung8 = not_first (no_holder s h || no_intertie s i) 8 _ (omega arith) (none-second (open_refusal s) _ e) in
     let rung9 = not_first (bad_kw kw || bad_term term) 9 _ (omega arith) rung8.1 in
     let rung10 = not_first (ltb (placed_of s h i) kw) 10 _ (omega arith) rung9.1 in
     let rung13 = not-whenever (held || past) 13 (omega arith) rung10.1 in
-    let state = refusal-none s (none_first (state_refusal s) _ e) in
+    let ready = open-none s (none_first (open_refusal s) _ e) in
+    let state = refusal-none s ready.0 in
     let kwRange = kw-in-range kw (or_left (bad_kw kw) (bad_term term) rung9.0) in
     let termRange = term-in-range term (or_right (bad_kw kw) (bad_term term) rung9.0) in
     record {
       long = state.0;
       orderly = state.1;
-      stage = one-stage (stage_of s) 4 rung7.0;
+      stage = ready.1;
       holder-there = is-holder s h (or_left (no_holder s h) (no_intertie s i) rung8.0);
       intertie-there = is-intertie s i (or_right (no_holder s h) (no_intertie s i) rung8.0);
       kw-least = kwRange.0;

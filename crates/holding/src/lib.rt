@@ -72,8 +72,7 @@ fn check_move(state: &[u32], giver: u32, taker: u32, intertie: u32, kw: u64) -> 
 fn check_lock(state: &[u32], holder: u32, intertie: u32, kw: u64, term: u32) -> Result<(), Refusal>
     ensures { number_in result ≡ lock_refusal state.now holder intertie kw term }
 {
-    orderly::check_state(state)?;
-    call::refuse_if(!call::is_stage(state, Stage::Open), Refusal::Stage)?;
+    call::check_open(state)?;
     call::refuse_if(call::no_pair(state, holder, intertie), Refusal::NoSuch)?;
     call::refuse_if(unfit_lock(kw, term), Refusal::Range)?;
     call::refuse_if(over_placed(state, holder, intertie, kw), Refusal::TooMuch)?;

@@ -1,7 +1,7 @@
 -- A taking that is done: what it finds where no refusal applies, and what it changes. The state after it is orderly.
 use Prim.Native.Nat.{ℕ, ◌+◌, ◌-◌, ◌≤◌, ◌<◌}
 use mathlib.Core.Path.{◌≡◌, ap, ◌∙◌}
-use mathlib.Core.Bool.{not, ◌||◌}
+use mathlib.Core.Bool.{◌||◌}
 use mathlib.Core.List.{List}
 use mathlib.Core.Logic.{◌≢◌}
 use native.Mathlib.Decide.{ℕ_discrete}
@@ -15,12 +15,11 @@ use Rattle.base.proofs.ChoiceLaws.{or_left, or_right}
 use Rattle.base.proofs.SumLaws.{sum_to-same}
 use Rattle.base.specs.Limits.{state_words}
 use Rattle.state.specs.Layout.{place, interties, holders, stage_of, last_day_at, last_day_of, unassigned_at, unassigned_of, unplaced_of, last_week_at, last_week_of, takings_at, takings_of, placed_of, taken_at, taken_of, locked_of, term_of, on_intertie, of_holder}
-use Rattle.state.specs.Orderly.{state_refusal}
 use Rattle.state.proofs.OrderlyLaws.{Orderly, refusal-none, taken-most}
 use Rattle.state.proofs.FrameLaws.{SameRows, SameOpening, same-holders, same-pair, at_stored, at-other-row, at-other-column, column-sum-stored, column-sum-apart}
-use Rattle.call.specs.Tests.{no_holder, no_intertie, bad_kw}
+use Rattle.call.specs.Tests.{open_refusal, no_holder, no_intertie, bad_kw}
 use Rattle.call.proofs.LadderLaws.{none_first, none-second, not-whenever, not_first}
-use Rattle.call.proofs.TestLaws.{is-holder, is-intertie, one-stage, kw-in-range}
+use Rattle.call.proofs.TestLaws.{open-none, is-holder, is-intertie, kw-in-range}
 use Rattle.call.proofs.StoreLaws.{word-by}
 use Rattle.call.proofs.KeptLaws.{SameRequests, on-intertie-same, of-holder-same, same-unplaced, same-unplaced-sum, pending-after, no-pending-after, sellers-after, orderly-after}
 use Rattle.taking.specs.declared.Calendar.{Calendar}
@@ -45,18 +44,18 @@ unfolding take_refusal
 take_done s h i kw day e =
     let early = ltb day (last_day_of s) in
     let third = leb 2 (count_in (calendar_of s h) (week_of day)) in
-    let rung7 = not_first (not (eqb (stage_of s) 4)) 7 _ (omega arith) (none-second (state_refusal s) _ e) in
-    let rung8 = not_first (no_holder s h || no_intertie s i) 8 _ (omega arith) rung7.1 in
+    let rung8 = not_first (no_holder s h || no_intertie s i) 8 _ (omega arith) (none-second (open_refusal s) _ e) in
     let rung9 = not_first (bad_kw kw) 9 _ (omega arith) rung8.1 in
     let rung11 = not_first (refuses_day (calendar_of s h) day) 11 _ (omega arith) rung9.1 in
     let rung12 = not-whenever (eqb (unassigned_of s i) 0) 12 (omega arith) rung11.1 in
-    let state = refusal-none s (none_first (state_refusal s) _ e) in
+    let ready = open-none s (none_first (open_refusal s) _ e) in
+    let state = refusal-none s ready.0 in
     let kwRange = kw-in-range kw rung9.0 in
     let some : unassigned_of s i ≢ 0 = eqb-false (unassigned_of s i) 0 rung12 in
     record {
       long = state.0;
       orderly = state.1;
-      stage = one-stage (stage_of s) 4 rung7.0;
+      stage = ready.1;
       holder-there = is-holder s h (or_left (no_holder s h) (no_intertie s i) rung8.0);
       intertie-there = is-intertie s i (or_right (no_holder s h) (no_intertie s i) rung8.0);
       kw-least = kwRange.0;

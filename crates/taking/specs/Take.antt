@@ -1,14 +1,12 @@
 -- Take (stage 4), with a day number: grants the smaller of the kW named and the unassigned, into taken.
 -- Two granted takings per holder and week.
-use Rattle.std.specs.Prelude.{ℕ, ◌+◌, ◌-◌, min, List, not, eqb, set}
+use Rattle.std.specs.Prelude.{ℕ, ◌+◌, ◌-◌, min, List, eqb, set}
 use Rattle.base.specs.Answers.{granted}
-use Rattle.base.specs.Refusals.{stage_refused, no_such_refused, range_refused, day_refused, none_left_refused}
-use Rattle.base.specs.Stages.{open_stage}
-use Rattle.state.specs.Layout.{stage_of, last_day_at, last_day_of, unassigned_at, unassigned_of}
+use Rattle.base.specs.Refusals.{no_such_refused, range_refused, day_refused, none_left_refused}
+use Rattle.state.specs.Layout.{last_day_at, last_day_of, unassigned_at, unassigned_of}
 use Rattle.state.specs.Layout.{last_week_at, last_week_of, takings_at, takings_of, taken_at, taken_of}
-use Rattle.state.specs.Orderly.{state_refusal}
 use Rattle.call.specs.Outcome.{Outcome, decided, or_else, whenever}
-use Rattle.call.specs.Tests.{no_pair, bad_kw}
+use Rattle.call.specs.Tests.{open_refusal, no_pair, bad_kw}
 use Rattle.taking.specs.declared.Calendar.{Calendar}
 use Rattle.taking.specs.Calendar.{refuses_day, after_taking}
 
@@ -19,12 +17,11 @@ calendar_of s h = record { last_day = last_day_of s; week = last_week_of s h; co
 -- the lowest number that applies, 0 if none
 unfoldable pub take_refusal : List ℕ → ℕ → ℕ → ℕ → ℕ → ℕ
 take_refusal s h i kw day =
-    or_else (state_refusal s)
-    (or_else (whenever (not (eqb (stage_of s) open_stage)) stage_refused)
+    or_else (open_refusal s)
     (or_else (whenever (no_pair s h i) no_such_refused)
     (or_else (whenever (bad_kw kw) range_refused)
     (or_else (whenever (refuses_day (calendar_of s h) day) day_refused)
-    (whenever (eqb (unassigned_of s i) 0) none_left_refused)))))
+    (whenever (eqb (unassigned_of s i) 0) none_left_refused))))
 
 -- the kW granted
 abbrev pub take_kw : List ℕ → ℕ → ℕ → ℕ

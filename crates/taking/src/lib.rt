@@ -11,7 +11,6 @@ ghost use Rattle.taking.specs.Take.{calendar_of, take_refusal, take_kw, with_cal
 use base::Granted;
 use base::limits::{MOST_TAKINGS, WEEK_DAYS};
 use base::refusals::Refusal;
-use base::stages::Stage;
 use state::layout;
 
 // The calendar of a holder's takings: the day of the last one, whoever's it was, the week of the
@@ -76,14 +75,12 @@ pub fn take(
 }
 
 // The first refusal that applies to a taking. (State, holder, intertie, kW and day one by one, as C passes them: each function
-// takes only those that it needs, as its definition does. Here and in holding's `check_lock` what `call::check_open` tries stands
-// as two lines: both definitions try the two numbers one by one.)
+// takes only those that it needs, as its definition does.)
 #[tactic(auto, using(call::proofs::LadderLaws::passes, call::proofs::LadderLaws::stops), unfolding(crate::specs::Take::take_refusal))]
 fn check_take(state: &[u32], holder: u32, intertie: u32, kw: u64, day: u32) -> Result<(), Refusal>
     ensures { number_in result ≡ take_refusal state.now holder intertie kw day }
 {
-    orderly::check_state(state)?;
-    call::refuse_if(!call::is_stage(state, Stage::Open), Refusal::Stage)?;
+    call::check_open(state)?;
     call::refuse_if(call::no_pair(state, holder, intertie), Refusal::NoSuch)?;
     call::refuse_if(call::bad_kw(kw), Refusal::Range)?;
     call::refuse_if(day_refused(state, holder, day), Refusal::Day)?;
