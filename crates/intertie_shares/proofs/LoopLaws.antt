@@ -21,12 +21,11 @@ use Rattle.base.proofs.VectorLaws.{at-row}
 use Rattle.base.proofs.WordLaws.{take-tab, length-tab, at-tab, fill-whole}
 use Rattle.share_out.specs.Rule.{Outcome, shared, unfit_lengths, unfit_numbers, shared_answer, share_out}
 use Rattle.intertie_shares.specs.Pairs.{pair_at, at_pair, column, fill_column, fill_table}
-use Rattle.intertie_shares.specs.Rule.{among_holders, share_out_on, grant_on, kw_over, passes_over, share_out_each}
-use Rattle.intertie_shares.specs.Workers.Fit.{Sized, SharedOn}
+use Rattle.intertie_shares.specs.Rule.{among_holders, share_out_on, grant_on, kw_over, passes_over, over_interties}
+use Rattle.intertie_shares.specs.Workers.Fit.{SharedOn}
 use Rattle.intertie_shares.proofs.PairLaws.{fill_column-zero, fill_column-more, fill_column-same, length-fill_column, fill_table-zero, fill_table-more}
 use Rattle.intertie_shares.proofs.HolderLaws.{Ranged, among-fits}
 use Rattle.intertie_shares.proofs.IntertieLaws.{kept_on, kw-most, passes-most}
-use Rattle.intertie_shares.proofs.OutcomeLaws.{each-done}
 
 -- after h of n holders have got f on intertie i
 pub record Scattered (i n : ℕ) (f : ℕ → ℕ) (first table : List ℕ) (h : ℕ) : Type 0 where
@@ -217,8 +216,8 @@ module _ (I H : ℕ) (pools claims weights first : List ℕ) where
 
   -- after all interties
   pub over-all : (grants : List ℕ) (k p i : ℕ) → Over I H pools claims weights first grants k p i → I ≤ i →
-      Sized I H pools claims weights first →
-      (granted k p ≡ (share_out_each I H pools claims weights first).answer) × (grants ≡ (share_out_each I H pools claims weights first).output)
-  over-all grants k p i s l fit =
+      (granted k p ≡ (over_interties H (at pools) (at_pair claims) (at weights) I first).answer)
+      × (grants ≡ (over_interties H (at pools) (at_pair claims) (at weights) I first).output)
+  over-all grants k p i s l =
       let end : i ≡ I = omega (arith, s.inside) in
-      rw (each-done I H pools claims weights first fit, ← end) (rw (s.kw, s.passes), s.written)
+      rw (← end) (rw (s.kw, s.passes), s.written)

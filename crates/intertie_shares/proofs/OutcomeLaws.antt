@@ -1,17 +1,21 @@
 -- The answer and the grants by cases: refused with 5, shared out on each intertie.
-use Prim.Native.Nat.{ℕ}
-use mathlib.Core.Path.{◌≡◌}
-use mathlib.Core.Bool.{true, false}
-use mathlib.Core.List.{List}
-use lib.ListN.{length}
+use Prim.Native.Nat.{ℕ, ◌≤◌, ◌<◌}
+use mathlib.Core.Path.{◌≡◌, refl, sym, ap, ◌∙◌}
+use mathlib.Core.Bool.{Bool, true, false, ◌||◌}
+use mathlib.Core.List.{List, ◌++◌}
+use lib.ListN.{length, take, drop}
 use lib.Dec.{ltb}
-use borrow.Author.Tests.{ltb-false, le-ltb}
+use borrow.Author.Tests.{ltb-false, le-ltb, lt-ltb}
 use Rattle.base.specs.Words.{at}
 use Rattle.base.specs.Answers.{refused}
 use Rattle.base.proofs.ChoiceLaws.{or_left, or_right}
-use Rattle.intertie_shares.specs.Pairs.{at_pair}
-use Rattle.intertie_shares.specs.Rule.{over_interties, unfit_sizes, share_out_each}
+use Rattle.std.proofs.lemmas.List.{take-append-drop, length-take-le}
+use Rattle.intertie_shares.specs.Pairs.{at_pair, fill_table}
+use Rattle.intertie_shares.specs.Rule.{grant_on, over_interties, unfit_sizes, share_out_each}
 use Rattle.intertie_shares.specs.Workers.Fit.{Sized}
+use Rattle.intertie_shares.proofs.PairLaws.{fill_table-front}
+use Rattle.share_out.specs.Rule.{Outcome}
+use native.Mathlib.Omega.{arith}
 
 -- refusal 5 as its six tests
 pub fit-sizes : (I H : ℕ) (pools claims weights grants : List ℕ) →
@@ -42,9 +46,22 @@ sizes-fit I H pools claims weights grants s =
       le-ltb (length grants) 1536 s.room,
     )
 
+or_last : (a b c d e f : Bool) → a || (b || (c || (d || (e || f)))) ≡ (a || (b || (c || (d || (e || false))))) || f
+or_last true b c d e f = refl
+or_last false true c d e f = refl
+or_last false false true d e f = refl
+or_last false false false true e f = refl
+or_last false false false false true f = refl
+or_last false false false false false f = refl
+
+-- by the other five tests, and that of the grants
+sizes-by-room : (I H pools claims weights grants : ℕ) →
+    unfit_sizes I H pools claims weights grants ≡ unfit_sizes I H pools claims weights 1536 || ltb grants 1536
+sizes-by-room I H pools claims weights grants = or_last (ltb 48 I) (ltb 32 H) (ltb pools I) (ltb weights H) (ltb claims 1536) (ltb grants 1536)
+
 -- the call by cases: refused with 5, and done
 module _ (I H : ℕ) (pools claims weights grants : List ℕ) where
-  pub each-refused : unfit_sizes I H (length pools) (length claims) (length weights) (length grants) ≡ true →
+  each-refused : unfit_sizes I H (length pools) (length claims) (length weights) (length grants) ≡ true →
       share_out_each I H pools claims weights grants ≡ record { answer = refused 5; output = grants }
   unfolding share_out_each
   each-refused e = rw e
@@ -53,3 +70,32 @@ module _ (I H : ℕ) (pools claims weights grants : List ℕ) where
       share_out_each I H pools claims weights grants ≡ over_interties H (at pools) (at_pair claims) (at weights) I grants
   unfolding share_out_each
   each-done s = rw (sizes-fit I H pools claims weights grants s)
+
+  -- by the tests as they are made: five sizes, and then the table of grants
+  pub five-refused : unfit_sizes I H (length pools) (length claims) (length weights) 1536 ≡ true →
+      share_out_each I H pools claims weights grants ≡ record { answer = refused 5; output = grants }
+  five-refused e =
+      each-refused (sizes-by-room I H (length pools) (length claims) (length weights) (length grants) ∙ ap (λ b. b || ltb (length grants) 1536) e)
+
+  pub short-refused : unfit_sizes I H (length pools) (length claims) (length weights) 1536 ≡ false → length grants < 1536 →
+      share_out_each I H pools claims weights grants ≡ record { answer = refused 5; output = grants }
+  short-refused e l =
+      each-refused
+      (sizes-by-room I H (length pools) (length claims) (length weights) (length grants) ∙ ap (λ b. b || ltb (length grants) 1536) e ∙ lt-ltb (length grants) 1536 l)
+
+  pub sizes-left : unfit_sizes I H (length pools) (length claims) (length weights) 1536 ≡ false → 1536 ≤ length grants → Sized I H pools claims weights grants
+  sizes-left e l =
+      fit-sizes I H pools claims weights grants
+      (sizes-by-room I H (length pools) (length claims) (length weights) (length grants) ∙ ap (λ b. b || ltb (length grants) 1536) e ∙ le-ltb (length grants) 1536 l)
+
+  -- shared out in front of the words past the pairs
+  pub front-done : (first after : List ℕ) → Sized I H pools claims weights grants → first ≡ take 1536 grants →
+      after ≡ (over_interties H (at pools) (at_pair claims) (at weights) I first).output →
+      after ++ drop 1536 grants ≡ (share_out_each I H pools claims weights grants).output
+  front-done first after s f a =
+      let fill : List ℕ → List ℕ = fill_table I H (grant_on H (at pools) (at_pair claims) (at weights)) in
+      ap (λ l. l ++ drop 1536 grants) (a ∙ ap fill f)
+      ∙ sym (fill_table-front I H (grant_on H (at pools) (at_pair claims) (at weights)) (take 1536 grants) (drop 1536 grants) s.holders s.interties
+      (omega (arith, length-take-le 1536 grants s.room)))
+      ∙ ap fill (take-append-drop 1536 grants)
+      ∙ sym (ap (λ (o : Outcome). o.output) (each-done s))

@@ -1,13 +1,14 @@
 -- Laws of tables of the pairs: what stands at the pairs that were filled, and that the other words stay.
 use Prim.Native.Nat.{ℕ, zero, suc, ◌+◌, ◌≤◌, ◌<◌}
-use mathlib.Core.Path.{◌≡◌, refl, ◌∙◌}
+use mathlib.Core.Path.{◌≡◌, refl, ap, ◌∙◌}
 use mathlib.Core.Logic.{◌≢◌, ⊎_elim}
-use mathlib.Core.List.{List}
+use mathlib.Core.List.{List, ◌++◌}
 use native.Mathlib.Nat.{le_step, lt-suc_self, not-suc-le-zero}
 use native.Mathlib.Numerals.{add-one}
 use native.Mathlib.Omega.{arith}
 use lib.ListN.{length, set, length-set}
 use lib.Seq.{get_or-set_same, get_or-set_other}
+use Rattle.std.proofs.lemmas.List.{set-append_left}
 use Rattle.base.specs.Words.{at}
 use Rattle.base.proofs.SumLaws.{below_suc}
 use Rattle.intertie_shares.specs.Pairs.{pair_at, fill_column, fill_table}
@@ -94,6 +95,24 @@ module _ (H : ℕ) (f : ℕ → ℕ → ℕ) (table : List ℕ) where
   at-fill_table-other (suc I) p other =
       at-fill_column-other I (λ h. f h I) (fill_table I H f table) H p (λ h l. other h I l (lt-suc_self I))
       ∙ at-fill_table-other I p (λ h i l m. other h i l (le_step m))
+
+-- filled in front of other words
+pub fill_column-front : (i H : ℕ) (f : ℕ → ℕ) (table rest : List ℕ) → H ≤ 32 → i < 48 → 1536 ≤ length table →
+    fill_column i H f (table ++ rest) ≡ fill_column i H f table ++ rest
+unfolding fill_column
+fill_column-front i zero f table rest few low whole = refl
+fill_column-front i (suc H) f table rest few low whole =
+    let inside : pair_at H i < length (fill_column i H f table) = omega (arith, length-fill_column i f table H) in
+    ap (λ t. set t (pair_at H i) (f H)) (fill_column-front i H f table rest (omega arith) low whole)
+    ∙ set-append_left (fill_column i H f table) rest (pair_at H i) (f H) inside
+
+pub fill_table-front : (I H : ℕ) (f : ℕ → ℕ → ℕ) (table rest : List ℕ) → H ≤ 32 → I ≤ 48 → 1536 ≤ length table →
+    fill_table I H f (table ++ rest) ≡ fill_table I H f table ++ rest
+unfolding fill_table
+fill_table-front zero H f table rest few low whole = refl
+fill_table-front (suc I) H f table rest few low whole =
+    ap (fill_column I H (λ h. f h I)) (fill_table-front I H f table rest few (omega arith) whole)
+    ∙ fill_column-front I H (λ h. f h I) (fill_table I H f table) rest few (omega arith) (omega (arith, length-fill_table H f table I))
 
 -- the same values fill alike
 pub fill_table-same : (I H : ℕ) (f g : ℕ → ℕ → ℕ) (table : List ℕ) → ((h i : ℕ) → h < H → i < I → f h i ≡ g h i) →

@@ -10,29 +10,27 @@ ghost use Rattle.base.specs.Refused.{answer_of};
 ghost use Rattle.base.specs.Sums.{sum_to, all_to};
 ghost use Rattle.base.specs.Words.{at, tab};
 ghost use Rattle.intertie_shares.specs.Pairs.{at_pair, column, fill_column};
-ghost use Rattle.intertie_shares.specs.Rule.{unfit_sizes, share_out_each};
+ghost use Rattle.intertie_shares.specs.Rule.{unfit_sizes, over_interties, share_out_each};
 ghost use Rattle.intertie_shares.specs.Workers.Fit.{SharedOn};
 
 use base::limits::{MOST_HOLDERS, MOST_INTERTIES, MOST_KW, MOST_LOAD_SHARE, MOST_PAIRS};
 use base::refusals::Refusal;
 use base::{Granted, vectors};
 
-// Refusal 5: whether a size is over its limit, a pool or a weight is missing, or a table is short. (Six lengths, as the definition has
-// them: a struct of them would be made and taken apart at once.)
+// Refusal 5 where the table of grants is whole: whether a size is over its limit, a pool or a weight is missing, or claims are
+// missing. (Five lengths, as the definition has them: a struct of them would be made and taken apart at once.)
 fn unfit_sizes(
     interties: usize,
     holders: usize,
     pools: usize,
     claims: usize,
     weights: usize,
-    grants: usize,
 ) -> bool
-    ensures { result ≡ unfit_sizes interties holders pools claims weights grants }
+    ensures { result ≡ unfit_sizes interties holders pools claims weights most_pairs }
 {
     (MOST_INTERTIES < interties)
         | ((MOST_HOLDERS < holders)
-            | ((pools < interties)
-                | ((weights < holders) | ((claims < MOST_PAIRS) | (grants < MOST_PAIRS)))))
+            | ((pools < interties) | ((weights < holders) | (claims < MOST_PAIRS))))
 }
 
 // What a share-out granted. One that was refused has left its output as it was: it is cleared, and grants nothing.
@@ -51,8 +49,8 @@ fn settle(made: Result<Granted, Refusal>, output: &mut [u64]) -> Granted
 }
 
 // Scatters the holders' words over an intertie of a table. (By place: of `as_chunks_mut` nothing is said of what the slice ends as.)
-fn scatter(words: &[u64], intertie: usize, table: &mut [u64])
-    requires { (intertie < most_interties) × (length words.now ≤ most_holders) × (most_pairs ≤ length table.old) }
+fn scatter(words: &[u64], intertie: usize, table: &mut [u64; MOST_PAIRS])
+    requires { (intertie < most_interties) × (length words.now ≤ most_holders) }
     ensures { let words = words.now in
         table.new ≡ fill_column intertie (length words) (at words) table.old }
 {
@@ -62,7 +60,8 @@ fn scatter(words: &[u64], intertie: usize, table: &mut [u64])
 }
 
 // What is shared out: a pool for each intertie, a claim for each pair and a weight for each holder, how many there are of
-// both, and whether the share-out takes every weight.
+// both, and whether the share-out takes every weight. (The claims as a slice: an array of its first words would not be the list that
+// the clauses name.)
 #[derive(Clone, Copy)]
 struct Claims<'a> {
     interties: usize,
@@ -107,8 +106,8 @@ impl Claims<'_> {
     }
 
     // Grants each claim on an intertie whole. (By place, as in `scatter`.)
-    fn grant_claims(self, intertie: usize, grants: &mut [u64])
-        requires { (intertie < self.interties) × (most_pairs ≤ length grants.old) }
+    fn grant_claims(self, intertie: usize, grants: &mut [u64; MOST_PAIRS])
+        requires { intertie < self.interties }
         ensures { let claim = at_pair self.entry.claims.now in
             grants.new ≡ fill_column intertie self.entry.holders (λ h. claim h intertie) grants.old }
     {
@@ -125,9 +124,9 @@ impl Claims<'_> {
         intertie: usize,
         claimed: &mut [u64; MOST_HOLDERS],
         output: &mut [u64; MOST_HOLDERS],
-        grants: &mut [u64],
+        grants: &mut [u64; MOST_PAIRS],
     ) -> Granted
-        requires { (intertie < self.interties) × (most_pairs ≤ length grants.old) }
+        requires { intertie < self.interties }
         ensures { SharedOn intertie self.entry.holders self.entry.pools.now self.entry.claims.now
             self.entry.weights.now grants.old result grants.new }
     {
@@ -148,9 +147,9 @@ impl Claims<'_> {
         intertie: usize,
         claimed: &mut [u64; MOST_HOLDERS],
         output: &mut [u64; MOST_HOLDERS],
-        grants: &mut [u64],
+        grants: &mut [u64; MOST_PAIRS],
     ) -> Granted
-        requires { (intertie < self.interties) × (most_pairs ≤ length grants.old) }
+        requires { intertie < self.interties }
         ensures { SharedOn intertie self.entry.holders self.entry.pools.now self.entry.claims.now
             self.entry.weights.now grants.old result grants.new }
     {
@@ -163,12 +162,11 @@ impl Claims<'_> {
         self.share_out_gathered(intertie, claimed, output, grants)
     }
 
-    // Shares out on each intertie in turn; hands back kW and passes over all. (Grants as a slice with its least length in three
-    // clauses: as an array, lent by `first_chunk_mut`, it would have to be put back before the rest of the slice in each proof.)
-    fn on_each(self, grants: &mut [u64]) -> Granted
-        requires { most_pairs ≤ length grants.old }
+    // Shares out on each intertie in turn; hands back kW and passes over all.
+    fn on_each(self, grants: &mut [u64; MOST_PAIRS]) -> Granted
         ensures { let given = self.entry in
-            let made = share_out_each given.interties given.holders given.pools.now given.claims.now given.weights.now grants.old in
+            let made = over_interties given.holders (at given.pools.now) (at_pair given.claims.now) (at given.weights.now) given.interties
+            grants.old in
             (granted result.kw result.passes ≡ made.answer) × (grants.new ≡ made.output) }
     {
         let mut claimed = [0u64; MOST_HOLDERS];
@@ -197,16 +195,12 @@ pub fn share_out_each(
     ensures { let made = share_out_each interties holders pools.now claims.now weights.now grants.old in
         (answer_of result ≡ made.answer) × (grants.new ≡ made.output) }
 {
-    if unfit_sizes(
-        interties,
-        holders,
-        pools.len(),
-        claims.len(),
-        weights.len(),
-        grants.len(),
-    ) {
+    if unfit_sizes(interties, holders, pools.len(), claims.len(), weights.len()) {
         return Err(Refusal::Room);
     }
+    let Some(grants) = grants.first_chunk_mut::<MOST_PAIRS>() else {
+        return Err(Refusal::Room);
+    };
     let weighable = vectors::all_within(&weights[..holders], MOST_LOAD_SHARE);
     let claims = Claims {
         interties,

@@ -1,19 +1,47 @@
 -- `share_out_each` meets its contract: refused with 5, or shared out on each intertie.
 use Rattle.base.proofs.Prelude.{ℕ, leb, sym, ap, ◌∙◌}
+use Rattle.std.proofs.lemmas.List.{length-take-le}
 use Rattle.base.proofs.VectorLaws.{all-front}
 use Rattle.share_out.specs.Rule.{Outcome}
-use Rattle.intertie_shares.proofs.OutcomeLaws.{fit-sizes, each-refused}
+use Rattle.intertie_shares.proofs.OutcomeLaws.{five-refused, short-refused, sizes-left, each-done, front-done}
 use Rattle.intertie_shares.proofs.share_out_each.Goals as goal
 
 pub returns-then-unfit_sizes : goal.returns-then-unfit_sizes
-returns-then-unfit_sizes c =
-    let a = c.args in
-    let o = each-refused a.interties a.holders a.pools.now a.claims.now a.weights.now a.grants.now
-    (sym c.unfit_sizes.ensures ∙ c.if-unfit_sizes.true) in
+returns-then-unfit_sizes c = let a = c.args in
+    let o = five-refused a.interties a.holders a.pools.now a.claims.now a.weights.now a.grants.now (sym c.unfit_sizes.ensures ∙ c.if-unfit_sizes.true) in
     (sym (ap (λ (r : Outcome). r.answer) o), sym (ap (λ (r : Outcome). r.output) o))
 
-pub invariant_of-claims-clause-light : goal.invariant_of-claims-clause-light
-invariant_of-claims-clause-light c =
-    let a = c.args in
-    let fit = fit-sizes a.interties a.holders a.pools.now a.claims.now a.weights.now a.grants.now (sym c.unfit_sizes.ensures ∙ c.if-unfit_sizes.false) in
-    c.all_within-weighable.ensures ∙ all-front c.args.holders c.args.weights.now (λ (w : ℕ). leb w 100000000) fit.weighed
+pub returns-in_default : goal.returns-in_default
+returns-in_default c = let a = c.args in
+    let o = short-refused a.interties a.holders a.pools.now a.claims.now a.weights.now a.grants.now
+    (sym c.unfit_sizes.ensures ∙ c.if-unfit_sizes.false) c.in_default.ensures.cases in
+    (sym (ap (λ (r : Outcome). r.answer) o), sym (ap (λ (r : Outcome). r.output) o))
+
+pub returns : goal.returns
+returns c = let a = c.args in
+    let cut = c.in-Some.ensures.cases in
+    let fit = sizes-left a.interties a.holders a.pools.now a.claims.now a.weights.now a.grants.now
+    (sym c.unfit_sizes.ensures ∙ c.if-unfit_sizes.false) cut.enough in (
+      c.on_each.ensures.0 ∙ sym (ap (λ (r : Outcome). r.answer) (each-done _ _ _ _ _ _ fit)),
+      front-done _ _ _ _ _ _ _ _ fit cut.same c.on_each.ensures.1,
+    )
+
+pub slice_bounds-all_within-end : goal.slice_bounds-all_within-end
+slice_bounds-all_within-end c = let a = c.args in
+    sym
+    (length-take-le a.holders a.weights.now
+    (sizes-left a.interties a.holders a.pools.now a.claims.now a.weights.now a.grants.now
+    (sym c.unfit_sizes.ensures ∙ c.if-unfit_sizes.false) c.in-Some.ensures.cases.enough).weighed)
+
+pub invariant_of-claims : goal.invariant_of-claims
+invariant_of-claims c = let a = c.args in
+    let fit = sizes-left a.interties a.holders a.pools.now a.claims.now a.weights.now a.grants.now
+    (sym c.unfit_sizes.ensures ∙ c.if-unfit_sizes.false) c.in-Some.ensures.cases.enough in
+    record {
+      few_interties = fit.interties;
+      few_holders = fit.holders;
+      pooled = fit.pooled;
+      claimed = fit.claimed;
+      weighed = fit.weighed;
+      light = c.all_within-weighable.ensures ∙ all-front a.holders a.weights.now (λ (w : ℕ). leb w 100000000) fit.weighed;
+    }

@@ -10,4 +10,4 @@ loop-h-preserved c =
     let given = c.args.self in
     let before : c.loop-h.h < given.holders = search rules in
     scattered-next _ _ _ _ _ _ _ c.loop-h.invariant before
-    (claim-in_row _ _ _ _ _ _ c.as_chunks.ensures.front given.claimed given.few_interties given.few_holders c.requires.0 before)
+    (claim-in_row _ _ _ _ _ _ c.as_chunks.ensures.front given.claimed given.few_interties given.few_holders c.requires before)

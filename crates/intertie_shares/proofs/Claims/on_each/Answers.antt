@@ -24,14 +24,4 @@ loop-i-preserved c =
     over-next _ _ _ _ _ _ _ _ _ _ _ _ c.loop-i.invariant c.loop-i-test.true c.share_out_on-granted.ensures
 
 pub returns : goal.returns
-returns c =
-    let given = c.args.self in
-    over-all _ _ _ _ _ _ _ _ _ _ c.loop-i.invariant c.loop-i-test.false
-    (record {
-      interties = given.few_interties;
-      holders = given.few_holders;
-      pooled = given.pooled;
-      weighed = given.weighed;
-      claimed = given.claimed;
-      room = c.requires;
-    })
+returns c = over-all _ _ _ _ _ _ _ _ _ _ c.loop-i.invariant c.loop-i-test.false
