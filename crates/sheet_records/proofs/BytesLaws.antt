@@ -43,10 +43,11 @@ pub words-none : (from : ℕ) (words l : List ℕ) → l ≡ sets l from (bytes_
 unfolding bytes_of
 words-none from words l = refl
 
-pub words-turn : (from k : ℕ) (words l m n : List ℕ) → k < length words →
-    m ≡ sets l from (bytes_of (take k words)) → n ≡ sets m (from + 4 * k) (word_bytes (at words k)) → n ≡ sets l from (bytes_of (take (k + 1) words))
-words-turn from k words l m n inside first second =
-    let size : from + 4 * k ≡ from + length (bytes_of (take k words)) = omega (arith, length-bytes (take k words), length-take-le k words (omega arith)) in
+pub words-turn : (place k : ℕ) (words l m n : List ℕ) → k < length words →
+    m ≡ sets l (4 * place) (bytes_of (take k words)) → n ≡ sets m (4 * (place + k)) (word_bytes (at words k)) → n ≡ sets l (4 * place) (bytes_of (take (k + 1) words))
+words-turn place k words l m n inside first second =
+    let from : ℕ = 4 * place in
+    let size : 4 * (place + k) ≡ from + length (bytes_of (take k words)) = omega (arith, length-bytes (take k words), length-take-le k words (omega arith)) in
     second
     ∙ ap (λ (b : ℕ). sets m b (word_bytes (at words k))) size
     ∙ ap (λ (t : List ℕ). sets t (from + length (bytes_of (take k words))) (word_bytes (at words k))) first
@@ -61,12 +62,12 @@ words-turn from k words l m n inside first second =
 -- the parts of a sheet, stored one after the other
 pub sheet-stored : (I H n : ℕ) (keys kws l a b d e m : List ℕ) → n ≡ length keys →
     a ≡ sets l 0 (word_bytes I) → b ≡ sets a 4 (word_bytes H) → d ≡ sets b 8 (word_bytes n) →
-    e ≡ sets d 12 (bytes_of keys) → m ≡ sets e (12 + 4 * n) (bytes_of kws) → m ≡ sets l 0 (sheet_bytes I H keys kws)
+    e ≡ sets d 12 (bytes_of keys) → m ≡ sets e (4 * (3 + n)) (bytes_of kws) → m ≡ sets l 0 (sheet_bytes I H keys kws)
 unfolding sheet_bytes bytes_of
 sheet-stored I H n keys kws l a b d e m en ea eb ed ee em =
     let words : List ℕ = word_bytes I ++ word_bytes H ++ word_bytes n in
     let header : d ≡ sets l 0 words = rw (ed, eb, ea) refl in
-    let size : 12 + 4 * n ≡ 0 + length (words ++ bytes_of keys) = omega (arith, length-bytes keys) in
+    let size : 4 * (3 + n) ≡ 0 + length (words ++ bytes_of keys) = omega (arith, length-bytes keys) in
     let front : e ≡ sets l 0 (words ++ bytes_of keys) = ee ∙ ap (λ (t : List ℕ). sets t 12 (bytes_of keys)) header ∙ sets_more 0 words (bytes_of keys) l in
     em
     ∙ ap (λ (k : ℕ). sets e k (bytes_of kws)) size

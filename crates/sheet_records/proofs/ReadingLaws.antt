@@ -1,10 +1,12 @@
 -- What reading at a place of a sheet finds, and what a reader of it gives.
-use Rattle.std.proofs.Common.{◌≡◌, ℕ, ◌+◌, ◌-◌, ◌*◌, ◌≤◌, ◌<◌, ◌^◌, Bool, true, false, ◌||◌, List, [], ◌∷◌, ◌++◌, length, map, ltb, leb, refl, sym, ap, ◌∙◌, arith, Option, Some, None, suc, subst}
+use Rattle.std.proofs.Common.{◌≡◌, ℕ, ◌+◌, ◌-◌, ◌*◌, ◌/◌, ◌≤◌, ◌<◌, ◌^◌, Bool, true, false, ◌||◌, List, [], ◌∷◌, ◌++◌, length, map, rules, ltb, leb, refl, sym, ap, ◌∙◌, arith, Option, Some, None, suc, subst}
 use Rattle.std.specs.List.{range_with_len}
-use Rattle.std.specs.Iterator.{YieldsFirst, Yields}
-use Rattle.std.proofs.lemmas.Option.{none-some}
+use Rattle.std.specs.Iterator.{YieldsFirst, Yields, MakesProgress, item_count}
 use Rattle.std.proofs.lemmas.List.FromFn.{length-map-range_with_len, get_or-map-range_with_len}
 use lib.ListN.{length-append, get_or}
+use Rattle.std.proofs.lemmas.Option.{none-some}
+use Rattle.base.proofs.ChoiceLaws.{or_left}
+use Rattle.std.proofs.Math.Bool.{or-true}
 use Rattle.std.proofs.lemmas.List.{length-map}
 use Rattle.std.specs.Iterator.Adapters.{enumerate_steps, enumerate_source, enumerate_count}
 use Rattle.std.specs.declared.iter.Enumerate.{Enumerate}
@@ -12,7 +14,9 @@ use lib.Seq.{get_or-append-add}
 use borrow.Author.Tests.{lt-ltb, le-ltb, le-leb, lt-leb, eq-eqb, ne_eqb, leb-true, leb-false, ltb-false, ltb-true}
 use Rattle.base.specs.Choice.{pick}
 use Rattle.base.specs.Words.{at}
-use Rattle.base.proofs.ChoiceLaws.{or_left}
+use Rattle.base.proofs.VectorLaws.{at-row}
+use Rattle.std.specs.Simd.{first_chunks}
+use Rattle.std.specs.Int.{from_le_bytes, w32}
 use Rattle.sheet_records.specs.Sheet.{word_at, count, key_at, kw_at}
 use Rattle.sheet_records.specs.Refusal.{bad_length}
 use Rattle.sheet_records.specs.Reading.{record_at, records_of, record_of, read_of, records_from}
@@ -23,6 +27,17 @@ use Rattle.sheet_records.proofs.RefusalLaws.{whole}
 pub word_below : (s : List ℕ) (b : ℕ) → ((i : ℕ) → at s i < 256) → word_at s b ≤ 4_294_967_295
 unfolding word_at
 word_below s b bytes = omega (arith, bytes b, bytes (b + 1), bytes (b + 2), bytes (b + 3))
+
+-- bytes cut into words: the word that four of them say is that of their place
+pub word-cut : (s : List ℕ) (rows : List (List ℕ)) (place n : ℕ) → rows ≡ first_chunks 4 (length s / 4) s → n ≡ from_le_bytes w32 (get_or rows place [])
+    → 4 * place + 4 ≤ length s → n ≡ word_at s (4 * place)
+unfolding word_at
+word-cut s rows place n e f room =
+    let here : place < length s / 4 = omega arith in
+    let byte : (i : ℕ) → i < 4 → at (get_or rows place []) i ≡ at s (4 * place + i) =
+    λ i l. ap (λ r. at (get_or r place []) i) e ∙ at-row 4 (length s / 4) place i s here l in
+    let first : at (get_or rows place []) 0 ≡ at s (4 * place) = byte 0 (omega arith) ∙ ap (at s) (omega arith) in
+    omega (arith, f, first, byte 1 (omega arith), byte 2 (omega arith), byte 3 (omega arith))
 
 -- reading in bytes of n records: n is too large, the length is another, the place is past the last, or a record is there
 module _ (s : List ℕ) (n k : ℕ) where
@@ -39,10 +54,13 @@ module _ (s : List ℕ) (n k : ℕ) where
     unfolding read_of
     of-past h = simp (le-ltb 1024 n few, eq-eqb (length s) (12 + 8 * n) exact, le-leb n k h)
 
-    pub of-next : (key kw : ℕ) → k < n → key ≡ word_at s (12 + 4 * k) → kw ≡ word_at s (12 + 4 * n + 4 * k)
+    pub of-next : (key kw : ℕ) → k < n → key ≡ word_at s (4 * (3 + k)) → kw ≡ word_at s (4 * (3 + n + k))
         → Some (record { key = key; kw = kw }) ≡ read_of s n k
     unfolding read_of
-    of-next key kw h p q = simp (le-ltb 1024 n few, eq-eqb (length s) (12 + 8 * n) exact, lt-leb n k h, p, q)
+    of-next key kw h p q =
+        let one : 12 + 4 * k ≡ 4 * (3 + k) = omega arith in
+        let other : 12 + 4 * n + 4 * k ≡ 4 * (3 + n + k) = omega arith in
+        simp (le-ltb 1024 n few, eq-eqb (length s) (12 + 8 * n) exact, lt-leb n k h, p, q, one, other)
 
 -- what is left from a place on, where no record was found there, and where one was
 nothing-left : (a b : Bool) (r : Record) (l : List Record) → pick (a || b) None (Some r) ≡ None → (b ≡ true → l ≡ []) → pick a [] l ≡ []
@@ -57,11 +75,14 @@ one-left false true r x l m e f = absurd (none-some x e)
 one-left false false r x l m e f = let same : r ≡ x = cc in (refl, refl, f refl ∙ ap (λ y. y ∷ m) same)
 
 module _ (s : List ℕ) (n k : ℕ) where
-  pub left-none : read_of s n k ≡ None → records_from s n k ≡ []
+  pub left-none : read_of s n k ≡ None → (records_from s n k ≡ []) × (records_from s n (k + 1) ≡ [])
   unfolding read_of records_from
-  left-none e =
-      nothing-left _ (leb n k) _ _ e
-      (λ t. let l = leb-true n k t in let z : n - k ≡ 0 = omega arith in ap (λ m. map (record_of s n) (range_with_len k m)) z)
+  left-none e = (
+    nothing-left _ (leb n k) _ _ e
+        (λ t. let l = leb-true n k t in let z : n - k ≡ 0 = omega arith in ap (λ m. map (record_of s n) (range_with_len k m)) z),
+    nothing-left _ (leb n k) _ _ e
+        (λ t. let l = leb-true n k t in let z : n - (k + 1) ≡ 0 = omega arith in ap (λ m. map (record_of s n) (range_with_len (k + 1) m)) z),
+  )
 
   pub left-some : (x : Record) → read_of s n k ≡ Some x → (k < n) × (n ≤ 1024) × (records_from s n k ≡ x ∷ records_from s n (k + 1))
   unfolding read_of records_from
@@ -69,6 +90,31 @@ module _ (s : List ℕ) (n k : ℕ) where
       let found = one-left _ (leb n k) _ x _ _ e
       (λ t. let l = leb-false n k t in let m : n - k ≡ suc (n - (k + 1)) = omega arith in ap (λ m. map (record_of s n) (range_with_len k m)) m) in
       (leb-false n k found.1, ltb-false 1024 n (or_left _ _ found.0), found.2)
+
+  -- a place past the last
+  pub past-last : n - k ≡ 0 → read_of s n k ≡ None
+  unfolding read_of
+  past-last z = simp (le-leb n k (omega arith), or-true)
+
+-- a reader at places that have come to their end, and at places of which the next was read
+module _ (s : List ℕ) (n k m l : ℕ) (left : List Record) (view : records_from s n k ≡ left) where
+  pub ended : (m ≡ n) × ((n - k ≡ 0) × (l ≡ k)) → (left ≡ []) × (records_from s m l ≡ [])
+  ended step =
+      let none = (left-none s n k (past-last s n k step.1.0)).0 in
+      (sym view ∙ none, rw (step.0, step.1.1) none)
+
+  pub next_left : (place : ℕ) (r : Option Record) → (m ≡ n) × ((0 < n - k) × (place ≡ k) × (l ≡ k + 1)) → r ≡ read_of s n place
+      → YieldsFirst (λ (x : List Record). x) left r (records_from s m l)
+  next_left place None step e =
+      let none = left-none s n k (rw (← step.1.1) (sym e)) in
+      (sym view ∙ none.0, rw (step.0, step.1.2) none.1)
+  next_left place (Some x) step e = sym view ∙ rw (step.0, step.1.2) (left-some s n k x (rw (← step.1.1) (sym e))).2
+
+-- what is left after a record is fewer
+pub fewer_left : {can : List Record → Type 0} (left after : List Record) (r : Option Record) → ((x : List Record) → can x) → YieldsFirst (λ (x : List Record). x) left r after
+    → MakesProgress can (item_count (λ (x : List Record). x)) left r after
+fewer_left left after None can e = search rules
+fewer_left left after (Some x) can e = search rules
 
 -- a reader of a whole sheet has its records left
 pub left-first : (s : List ℕ) (n : ℕ) → n ≡ pick (ltb (length s) 12) 0 (count s) → records_from s n 0 ≡ records_of s

@@ -5,9 +5,10 @@ ghost use Rattle.std.specs.Iterator.{YieldsFirst, item_count};
 ghost use Rattle.sheet_records.specs.Reading.{read_of, records_of};
 
 use crate::words;
-use crate::words::WORD_BYTES;
+use crate::words::KEYS_AT;
 use base::limits::{MOST_RECORDS, RECORD_BYTES, SHEET_HEADER_BYTES};
 use std::marker::Model;
+use std::ops::Range;
 
 // A record: its key, and its quantity in kilowatts.
 #[derive(Clone, Copy, Debug, PartialEq, Eq)]
@@ -30,20 +31,17 @@ pub fn read_at(sheet: &[u8], count: usize, place: usize) -> Option<Record>
     if count <= place {
         return None;
     }
-    let key = words::word(sheet, SHEET_HEADER_BYTES + WORD_BYTES * place);
-    let kw = words::word(
-        sheet,
-        SHEET_HEADER_BYTES + WORD_BYTES * count + WORD_BYTES * place,
-    );
+    let key = words::word(sheet, KEYS_AT + place);
+    let kw = words::word(sheet, KEYS_AT + count + place);
     Some(Record { key, kw })
 }
 
-// A reader, seen as the list of the records that are left: the sheet, how many records it has, and the place of the next.
+// A reader, seen as the list of the records that are left: the sheet and the places of these records, from the next one to the
+// number of all.
 #[derive(Drop)]
 pub struct Reader<'a> {
     sheet: &'a [u8],
-    count: usize,
-    place: usize,
+    places: Range<usize>,
 }
 
 impl<'a> Model for Reader<'a> {
@@ -53,7 +51,7 @@ impl<'a> Model for Reader<'a> {
 
     ghost Value = { List Record };
 
-    ghost view = { λ reader. records_from reader.sheet.now reader.count reader.place };
+    ghost view = { λ reader. records_from reader.sheet.now reader.places.end reader.places.start };
 }
 
 // The records of a sheet from the first on. A sheet that refusal 1 refuses has none.
@@ -63,8 +61,7 @@ pub fn records<'a>(sheet: &'a [u8]) -> Reader<'a>
 {
     Reader {
         sheet,
-        count: words::record_count(sheet) as usize,
-        place: 0,
+        places: 0..words::record_count(sheet) as usize,
     }
 }
 
@@ -76,8 +73,8 @@ impl<'a> Iterator for Reader<'a> {
     ghost remaining = { item_count (λ left. left) };
 
     fn next(&mut self) -> Option<Record> {
-        let record = read_at(self.sheet, self.count, self.place)?;
-        self.place += 1;
-        Some(record)
+        let count = self.places.end;
+        let place = self.places.next()?;
+        read_at(self.sheet, count, place)
     }
 }

@@ -1,5 +1,5 @@
 // The words of a sheet, and refusal 1, which says how many there are.
-ghost use Rattle.std.specs.Prelude.{◌≡◌, ◌+◌, ◌≤◌, ltb, length};
+ghost use Rattle.std.specs.Prelude.{◌≡◌, ◌+◌, ◌*◌, ◌≤◌, ltb, length};
 ghost use Rattle.base.specs.Choice.{pick};
 ghost use Rattle.base.specs.Limits.{sheet_header_bytes};
 ghost use Rattle.sheet_records.specs.Sheet.{word_size, word_at, interties, holders, count};
@@ -10,25 +10,22 @@ use base::limits::{MOST_RECORDS, RECORD_BYTES, SHEET_HEADER_BYTES};
 // The bytes of a word.
 pub const WORD_BYTES: usize = 4;
 
-// Where the words of I, H and K begin.
+// The places of words, counted in words: those of I, H and K, and that of the first key.
 pub(crate) const INTERTIES_AT: usize = 0;
 
-pub(crate) const HOLDERS_AT: usize = 4;
+pub(crate) const HOLDERS_AT: usize = 1;
 
-pub(crate) const COUNT_AT: usize = 8;
+pub(crate) const COUNT_AT: usize = 2;
 
-// The little-endian word from a byte on.
-#[tactic(auto, unfolding(crate::specs::Sheet::word_at))]
-pub(crate) fn word(sheet: &[u8], from: usize) -> u32
-    requires { from + word_size ≤ length sheet.now }
-    ensures { result ≡ word_at sheet.now from }
+pub(crate) const KEYS_AT: usize = 3;
+
+// The word at a place. Its lowest byte comes first.
+pub(crate) fn word(sheet: &[u8], place: usize) -> u32
+    requires { word_size * place + word_size ≤ length sheet.now }
+    ensures { result ≡ word_at sheet.now (word_size * place) }
 {
-    u32::from_le_bytes([
-        sheet[from],
-        sheet[from + 1],
-        sheet[from + 2],
-        sheet[from + 3],
-    ])
+    let (words, _) = sheet.as_chunks::<WORD_BYTES>();
+    u32::from_le_bytes(words[place])
 }
 
 // Refusal 1: under 12 bytes, K over 1,024, or a length that is not 12 + 8·K. K is tested before 12 + 8·K is formed.
@@ -47,14 +44,14 @@ pub fn bad_length(sheet: &[u8]) -> bool
 }
 
 // A word of the header, 0 where the sheet is under 12 bytes. (0 and no Option: the definitions read 0 past the end, `at`.)
-fn header_word(sheet: &[u8], from: usize) -> u32
-    requires { from + word_size ≤ sheet_header_bytes }
-    ensures { let s = sheet.now in result ≡ pick (ltb (length s) sheet_header_bytes) 0 (word_at s from) }
+fn header_word(sheet: &[u8], place: usize) -> u32
+    requires { word_size * place + word_size ≤ sheet_header_bytes }
+    ensures { let s = sheet.now in result ≡ pick (ltb (length s) sheet_header_bytes) 0 (word_at s (word_size * place)) }
 {
     if sheet.len() < SHEET_HEADER_BYTES {
         return 0;
     }
-    word(sheet, from)
+    word(sheet, place)
 }
 
 // I, 0 where the sheet is under 12 bytes.

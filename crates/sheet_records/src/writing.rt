@@ -5,25 +5,26 @@ ghost use Rattle.base.specs.Limits.{most_records};
 ghost use Rattle.sheet_records.specs.Sheet.{word_size, size_of};
 ghost use Rattle.sheet_records.specs.Bytes.{word_bytes, bytes_of, sheet_bytes, SheetWritten};
 
-use crate::words::{COUNT_AT, HOLDERS_AT, INTERTIES_AT, WORD_BYTES};
+use crate::words::{COUNT_AT, HOLDERS_AT, INTERTIES_AT, KEYS_AT, WORD_BYTES};
 use base::limits::{MOST_RECORDS, RECORD_BYTES, SHEET_HEADER_BYTES};
 
-// Writes a word from a byte on, its lowest byte first. (By place, here and below: of `as_chunks_mut` nothing is said of what the
+// Writes a word at its place, its lowest byte first. (By place, here and below: of `as_chunks_mut` nothing is said of what the
 // slice ends as.)
-fn write_word(word: u32, from: usize, output: &mut [u8])
-    requires { from + word_size ≤ length output.old }
-    ensures { output.new ≡ sets output.old from (word_bytes word) }
+fn write_word(word: u32, place: usize, output: &mut [u8])
+    requires { word_size * place + word_size ≤ length output.old }
+    ensures { output.new ≡ sets output.old (word_size * place) (word_bytes word) }
 {
+    let from = WORD_BYTES * place;
     output[from..from + WORD_BYTES].copy_from_slice(&word.to_le_bytes());
 }
 
-// Writes words one after the other, from a byte on.
-fn write_words(words: &[u32], from: usize, output: &mut [u8])
-    requires { from + word_size * length words.now ≤ length output.old }
-    ensures { output.new ≡ sets output.old from (bytes_of words.now) }
+// Writes words one after the other, from a place on.
+fn write_words(words: &[u32], first: usize, output: &mut [u8])
+    requires { word_size * (first + length words.now) ≤ length output.old }
+    ensures { output.new ≡ sets output.old (word_size * first) (bytes_of words.now) }
 {
     for (k, word) in words.iter().enumerate() {
-        write_word(*word, from + WORD_BYTES * k, output);
+        write_word(*word, first + k, output);
     }
 }
 
@@ -38,8 +39,8 @@ fn put_sheet(interties: u32, holders: u32, keys: &[u32], kws: &[u32], output: &m
     write_word(interties, INTERTIES_AT, output);
     write_word(holders, HOLDERS_AT, output);
     write_word(count as u32, COUNT_AT, output);
-    write_words(keys, SHEET_HEADER_BYTES, output);
-    write_words(kws, SHEET_HEADER_BYTES + WORD_BYTES * count, output);
+    write_words(keys, KEYS_AT, output);
+    write_words(kws, KEYS_AT + count, output);
 }
 
 // Writes a sheet of I interties and H holders into the first bytes of the output, and gives how many they are. Where there are
