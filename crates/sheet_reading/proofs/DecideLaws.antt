@@ -1,18 +1,21 @@
 -- Refusals 2, 3 and 4 as they are decided from the sizes and the tables.
-use Prim.Native.Nat.{ℕ, ◌+◌, ◌*◌, ◌≤◌, ◌<◌, zero-le}
+use Prim.Native.Nat.{ℕ, ◌+◌, ◌*◌, ◌/◌, ◌≤◌, ◌<◌, zero-le}
 use mathlib.Core.Path.{◌≡◌, refl, sym, ap, ◌∙◌}
 use mathlib.Core.Bool.{Bool, true, false, ◌&&◌, not}
 use mathlib.Core.Logic.{⊎_elim}
-use mathlib.Core.List.{List}
+use mathlib.Core.List.{List, []}
 use native.Mathlib.Omega.{arith}
 use native.Mathlib.Nat.{le_trans, mul-le-mul_right, add_assoc, suc-ne-zero, not-suc-le-zero}
 use lib.Dec.{leb, ltb, eqb}
-use lib.ListN.{length, take, drop, get_or-eq_default}
+use lib.ListN.{length, take, drop, get_or, get_or-eq_default}
 use lib.Seq.{length-take-le}
 use Rattle.std.proofs.lemmas.List.{get_or-take, get_or-drop, length-drop}
 use Rattle.base.specs.Sums.{sum_to, all_to}
 use Rattle.base.specs.Words.{at}
 use Rattle.base.proofs.WordLaws.{length-tab, at-tab}
+use Rattle.base.proofs.VectorLaws.{at_mid, at-row, length-rows}
+use borrow.Rule.Slice.PartMut.{mid_of, mid_len}
+use Rattle.std.specs.Simd.{first_chunks}
 use Rattle.base.proofs.SumLaws.{sum_to-bound, sum_to-same, all_to-same}
 use Rattle.sheet_records.specs.Sheet.{interties, holders, count, kw_at, sum_over, how_many, is_limit, is_load_share, is_new_use, limit, outside, existing, existing_on}
 use Rattle.sheet_records.specs.Refusal.{within, bad_length, bad_sizes, records_stand, one_limit_each, one_load_share_each, no_rank_twice, rules_hold, limits_hold, sheet_refusal}
@@ -24,7 +27,7 @@ use Rattle.base.specs.Refused.{number_of}
 use Rattle.base.specs.Choice.{pick}
 use Rattle.base.proofs.RefusedLaws.{numbered}
 use Rattle.std.proofs.Common.{◌||◌}
-use Rattle.sheet_reading.specs.Workers.Deciding.{sizes_refusal, table_rules_hold, table_existing_on, table_limit_holds, Modest}
+use Rattle.sheet_reading.specs.Workers.Deciding.{header_refusal, table_rules_hold, table_existing_on, table_limit_holds, Modest}
 use Rattle.base.proofs.ChoiceLaws.{le-or-lt, test_by, both}
 use borrow.Author.Tests.{leb-true, le-leb}
 use Rattle.base.proofs.SumLaws.{all_to-rows}
@@ -38,6 +41,24 @@ pub existing-bound : (kw : List ℕ) (H i : ℕ) → H ≤ 32 → Modest kw → 
 existing-bound kw H i h modest =
     le_trans (sum_to-bound H (1024 * 4_294_967_295) (λ k. at kw (existing_slot k i)) (λ k _. modest (existing_slot k i)))
     (mul-le-mul_right (1024 * 4_294_967_295) h)
+
+-- E of a holder on an intertie in the table cut into the rows of holders
+pub existing-in_row : (kw : List ℕ) (rows : List (List ℕ)) (H h i : ℕ) → length kw ≡ slots → H ≤ 32 → i < 64
+    → rows ≡ first_chunks 64 (length (mid_of 192 12289 kw) / 64) (mid_of 192 12289 kw) → h < length (take H rows)
+    → (h < 32) × (at (get_or (take H rows) h []) i ≡ at kw (existing_slot h i))
+existing-in_row kw rows H h i full few narrow cut inside =
+    let part : List ℕ = mid_of 192 12289 kw in
+    let long : length part ≡ 12289 = mid_len 192 12481 kw (omega arith) in
+    let k : ℕ = length part / 64 in
+    let size : length rows ≡ k = ap length cut ∙ length-rows 64 k part in
+    let before : h < H = omega (arith, length-take-le H rows (omega arith)) in (
+      omega arith,
+      ap (λ r. at r i) (get_or-take H rows h [] before)
+          ∙ ap (λ t. at (get_or t h []) i) cut
+          ∙ at-row 64 k h i part (omega arith) narrow
+          ∙ at_mid 192 12289 kw (64 * h + i) (omega arith)
+          ∙ ap (at kw) (sym (add_assoc 192 (64 * h) i)),
+    )
 
 -- the ranks of all holders in one row
 pub ranks-row : (counts : List ℕ) (H : ℕ) → all_to (256 * H) (λ j. leb (at counts (4288 + j)) 1) ≡ all_to H (λ h. all_to 256 (λ r. leb (at counts (new_use_slot h r)) 1))
@@ -129,8 +150,8 @@ sizes-decided s I H b ei eh eb = rw (← ei, ← eh) (ap not (eb ∙ and_assoc (
 
 -- refusals 1 and 2 as they are decided
 module _ (s : List ℕ) where
-  pub sizes-1 : (a : Bool) → a ≡ bad_length s → a ≡ true → 1 ≡ sizes_refusal s
-  unfolding sizes_refusal
+  pub sizes-1 : (a : Bool) → a ≡ bad_length s → a ≡ true → 1 ≡ header_refusal s
+  unfolding header_refusal
   sizes-1 a e t = simp (← e, t)
 
   module _ (a b : Bool) (e : a ≡ bad_length s) (f : a ≡ false) (I H : ℕ) (ei : I ≡ pick (ltb (length s) 12) 0 (interties s)) (eh : H ≡ pick (ltb (length s) 12) 0 (holders s))
@@ -138,17 +159,17 @@ module _ (s : List ℕ) where
     sizes-bad : not b ≡ bad_sizes s
     sizes-bad = let whole = sym e ∙ f in sizes-decided s I H b (long-enough s I _ whole ei) (long-enough s H _ whole eh) eb
 
-    pub sizes-2 : b ≡ false → 2 ≡ sizes_refusal s
-    unfolding sizes_refusal
+    pub sizes-2 : b ≡ false → 2 ≡ header_refusal s
+    unfolding header_refusal
     sizes-2 t = simp (← e, f, ← sizes-bad, t)
 
-    pub sizes-0 : b ≡ true → 0 ≡ sizes_refusal s
-    unfolding sizes_refusal
+    pub sizes-0 : b ≡ true → 0 ≡ header_refusal s
+    unfolding header_refusal
     sizes-0 t = simp (← e, f, ← sizes-bad, t)
 
   -- what they say
-  pub sizes-pass : sizes_refusal s ≡ 0 → (bad_length s ≡ false) × (bad_sizes s ≡ false)
-  unfolding sizes_refusal
+  pub sizes-pass : header_refusal s ≡ 0 → (bad_length s ≡ false) × (bad_sizes s ≡ false)
+  unfolding header_refusal
   sizes-pass = go (bad_length s) (bad_sizes s)
     where
       go : (a b : Bool) → ◌≡◌ {A = ℕ} (pick a 1 (pick b 2 0)) 0 → (a ≡ false) × (b ≡ false)
@@ -156,8 +177,8 @@ module _ (s : List ℕ) where
       go false true e = absurd (suc-ne-zero 1 e)
       go false false e = (refl, refl)
 
-  pub sizes-refused : (r : Refusal) (n : ℕ) → n ≡ sizes_refusal s → n ≡ number_of r → (n ≡ sheet_refusal s) × (bad_length s || bad_sizes s ≡ true)
-  unfolding sizes_refusal sheet_refusal
+  pub sizes-refused : (r : Refusal) (n : ℕ) → n ≡ header_refusal s → n ≡ number_of r → (n ≡ sheet_refusal s) × (bad_length s || bad_sizes s ≡ true)
+  unfolding header_refusal sheet_refusal
   sizes-refused r n e f = go (bad_length s) (bad_sizes s) _ e (rw f (numbered r))
     where
       go : (a b : Bool) (rest : ℕ) → n ≡ pick a 1 (pick b 2 0) → 1 ≤ n → (n ≡ pick a 1 (pick b 2 rest)) × (a || b ≡ true)
@@ -166,7 +187,7 @@ module _ (s : List ℕ) where
       go false false rest p some = absurd (not-suc-le-zero (rw p at some))
 
 -- refusals 3 and 4 from what the code has read: the sizes, the tables, and the tests on them
-module _ (s : List ℕ) (passed : sizes_refusal s ≡ 0) (H I : ℕ) (eh : H ≡ pick (ltb (length s) 12) 0 (holders s)) (ei : I ≡ pick (ltb (length s) 12) 0 (interties s)) where
+module _ (s : List ℕ) (passed : header_refusal s ≡ 0) (H I : ℕ) (eh : H ≡ pick (ltb (length s) 12) 0 (holders s)) (ei : I ≡ pick (ltb (length s) 12) 0 (interties s)) where
   sizes : Sized s
   sizes = sized s (sizes-pass s passed).1
 
@@ -204,7 +225,7 @@ module _ (s : List ℕ) (passed : sizes_refusal s ≡ 0) (H I : ℕ) (eh : H ≡
       stands f = let p = sizes-pass s passed in simp (p.0, p.1, ← rules-decided, t, ← limits-decided, f)
 
 -- the two ways that a reading ends
-pub read-refused : (s : List ℕ) (tables : Tables) (r : Refusal) (n : ℕ) → n ≡ sizes_refusal s → n ≡ number_of r → ReadSheet s tables (number_of r) tables
+pub read-refused : (s : List ℕ) (tables : Tables) (r : Refusal) (n : ℕ) → n ≡ header_refusal s → n ≡ number_of r → ReadSheet s tables (number_of r) tables
 read-refused s tables r n e f =
     let p = sizes-refused s r n e f in
     record {
@@ -214,7 +235,7 @@ read-refused s tables r n e f =
       placed = simp p.1;
     }
 
-pub read-filled : (s : List ℕ) (before now : Tables) (r : ℕ) → sizes_refusal s ≡ 0 → r ≡ sheet_refusal s → Filled s now → ReadSheet s before r now
+pub read-filled : (s : List ℕ) (before now : Tables) (r : ℕ) → header_refusal s ≡ 0 → r ≡ sheet_refusal s → Filled s now → ReadSheet s before r now
 read-filled s before now r e a t =
     let p = sizes-pass s e in
     record {

@@ -7,9 +7,9 @@ ghost use Rattle.sheet_keys.specs.Key.{key_interties};
 ghost use Rattle.base.specs.Refused.{number_in};
 ghost use Rattle.sheet_records.specs.Refusal.{within, sheet_refusal};
 ghost use Rattle.sheet_reading.specs.Tables.{slots, count_table, kw_table, ReadSheet};
-ghost use Rattle.sheet_reading.specs.Workers.Deciding.{sizes_refusal, table_rules_hold, table_existing_on, table_limit_holds, Modest};
+ghost use Rattle.sheet_reading.specs.Workers.Deciding.{header_refusal, table_rules_hold, table_existing_on, table_limit_holds, Modest};
 
-use crate::tables::{Found, SLOTS, Tables};
+use crate::tables::{Found, HOLDER_INTERTIES, SLOTS, Tables};
 use crate::{rules, tables};
 use base::limits;
 use base::limits::MOST_RECORDS;
@@ -17,8 +17,8 @@ use base::refusals::Refusal;
 use sheet_records::words;
 
 // Refusals 1 and 2, those of the length and of I and H.
-fn sizes_stand(sheet: &[u8]) -> Result<(), Refusal>
-    ensures { number_in result ≡ sizes_refusal sheet.now }
+fn check_header(sheet: &[u8]) -> Result<(), Refusal>
+    ensures { number_in result ≡ header_refusal sheet.now }
 {
     if words::bad_length(sheet) {
         return Err(Refusal::SheetLength);
@@ -54,14 +54,16 @@ struct Filled<'a> {
 }
 
 impl Filled<'_> {
-    // The existing contracts of all holders on an intertie. (By place: of each holder's row one word is read.)
+    // The existing contracts of all holders on an intertie.
     fn existing_on(self, intertie: usize) -> u64
         requires { intertie < key_interties }
         ensures { result ≡ table_existing_on self.entry.kw.now self.entry.holders intertie }
     {
+        let kw = self.kw;
+        let (rows, _) = kw[tables::EXISTING..].as_chunks::<HOLDER_INTERTIES>();
         let mut sum = 0;
-        for h in 0..self.holders {
-            sum += self.kw[tables::EXISTING + tables::HOLDER_INTERTIES * h + intertie];
+        for row in &rows[..self.holders] {
+            sum += row[intertie];
         }
         sum
     }
@@ -74,7 +76,8 @@ impl Filled<'_> {
         self.kw[tables::OUTSIDE + intertie] + self.existing_on(intertie) <= self.kw[intertie]
     }
 
-    // Whether they fit on each intertie. All interties are looked at, so that no branch stands between them.
+    // Whether they fit on each intertie. All interties are looked at, so that no branch stands between them. (Beside
+    // orderly's `all_of`: one home for both would be public, and a public function has no `requires`, which one that takes a test has.)
     fn limits_hold(self) -> bool
         ensures { result ≡ all_to self.entry.interties (table_limit_holds self.entry.kw.now self.entry.holders) }
     {
@@ -101,7 +104,7 @@ impl Filled<'_> {
 
 // Refusals 3 and 4 of a sheet that 1 and 2 let pass, and its records in cleared tables.
 fn read_sized(found: Found, counts: &mut [u16; SLOTS], kw: &mut [u64; SLOTS]) -> Result<(), Refusal>
-    requires { (sizes_refusal found.sheet.now ≡ 0) × (counts.old ≡ replicate slots 0) × (kw.old ≡ replicate slots 0) }
+    requires { (header_refusal found.sheet.now ≡ 0) × (counts.old ≡ replicate slots 0) × (kw.old ≡ replicate slots 0) }
     ensures { let sheet = found.entry.sheet.now in
         (number_in result ≡ sheet_refusal sheet) × (counts.new ≡ count_table sheet) × (kw.new ≡ kw_table sheet) }
 {
@@ -128,18 +131,15 @@ fn read_sized(found: Found, counts: &mut [u16; SLOTS], kw: &mut [u64; SLOTS]) ->
 }
 
 // Refuses a sheet, or lets it pass, and fills the tables of its records (docs/RULES.md, "The sheet"). The tables may have any
-// content before; where refusal 1 or 2 applies they keep it.
+// content before; where refusal 1 or 2 applies they keep it. (Lent: in an answer their 150 KB would be copied, as those of
+// `find_slots` were.)
 pub fn read_sheet(sheet: &[u8], tables: &mut Tables) -> Result<(), Refusal>
     ensures { ReadSheet sheet.now tables.old (number_in result) tables.new }
 {
-    sizes_stand(sheet)?;
+    check_header(sheet)?;
     *tables = Tables::empty();
-    let mut slots = [0; MOST_RECORDS];
-    tables::find_slots(sheet, &mut slots);
-    let found = Found {
-        sheet,
-        slots: &slots,
-    };
+    let mut room = [0; MOST_RECORDS];
+    let found = tables::find_slots(sheet, &mut room);
     found.place_records(&mut tables.interties);
     read_sized(found, &mut tables.counts, &mut tables.kw)
 }
@@ -149,13 +149,9 @@ pub fn read_sheet(sheet: &[u8], tables: &mut Tables) -> Result<(), Refusal>
 pub fn sheet_refusal(sheet: &[u8]) -> Result<(), Refusal>
     ensures { number_in result ≡ sheet_refusal sheet.now }
 {
-    sizes_stand(sheet)?;
-    let mut slots = [0; MOST_RECORDS];
-    tables::find_slots(sheet, &mut slots);
-    let found = Found {
-        sheet,
-        slots: &slots,
-    };
+    check_header(sheet)?;
+    let mut room = [0; MOST_RECORDS];
+    let found = tables::find_slots(sheet, &mut room);
     let mut counts = [0; SLOTS];
     let mut kw = [0; SLOTS];
     read_sized(found, &mut counts, &mut kw)

@@ -101,7 +101,7 @@ fn record_stands(entry: Record, interties: u32, holders: u32) -> bool
         & (rule.least..=rule.most).contains(&entry.kw)
 }
 
-// Whether each record keeps its rule.
+// Whether each record keeps its rule. (A loop with &: `all` would branch on each record.)
 pub(crate) fn records_stand(sheet: &[u8]) -> bool
     requires { bad_length sheet.now ≡ false }
     ensures { result ≡ records_stand sheet.now }

@@ -7,7 +7,7 @@ use Rattle.sheet_reading.specs.Tables.{slot_of, count_table, kw_table, intertie_
 
 -- a list that has the slot of each record of a sheet
 abbrev pub SlotsOf : List ℕ → List ℕ → Type 0
-SlotsOf s found = (k : ℕ) → k < count s → at found k ≡ slot_of (key_at s k)
+SlotsOf s l = (k : ℕ) → k < count s → at l k ≡ slot_of (key_at s k)
 
 -- a table with an amount added at a slot
 abbrev pub add : List ℕ → ℕ → ℕ → List ℕ

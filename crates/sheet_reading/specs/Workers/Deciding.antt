@@ -11,8 +11,8 @@ use Rattle.sheet_records.specs.Sheet.{most_word}
 use Rattle.sheet_reading.specs.Tables.{limit_slot, outside_slot, load_share_slot, existing_slot, new_use_slot}
 
 -- refusals 1 and 2, 0 where neither applies
-unfoldable pub sizes_refusal : List ℕ → ℕ
-sizes_refusal s = pick (bad_length s) sheet_length_refused (pick (bad_sizes s) sizes_refused 0)
+unfoldable pub header_refusal : List ℕ → ℕ
+header_refusal s = pick (bad_length s) sheet_length_refused (pick (bad_sizes s) sizes_refused 0)
 
 -- the rules that count records, by a table of counts; stand says whether each record keeps its own
 abbrev pub table_rules_hold : Bool → List ℕ → ℕ → ℕ → Bool

@@ -1,7 +1,7 @@
--- `refusal::sizes_stand` meets its contract: each test decides its refusal.
+-- `refusal::check_header` meets its contract: each test decides its refusal.
 use Rattle.base.proofs.Prelude.{rules}
 use Rattle.sheet_reading.proofs.DecideLaws.{sizes-1, sizes-2, sizes-0}
-use Rattle.sheet_reading.proofs.refusal.sizes_stand.Goals as goal
+use Rattle.sheet_reading.proofs.refusal.check_header.Goals as goal
 
 pub returns-then-bad_length : goal.returns-then-bad_length
 returns-then-bad_length c = search (rules, sizes-1)

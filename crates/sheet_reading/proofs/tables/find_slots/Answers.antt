@@ -8,16 +8,25 @@ loop-place-init-derived c = search (rules, places-counted)
 pub loop-place-init : goal.loop-place-init
 loop-place-init c = slotted-none _ _
 
-pub bounds-found-place : goal.bounds-found-place
-bounds-found-place c =
-    place-below _ _ _ _ _ _ _ _ _ c.in-Some.ensures.steps c.loop-place.yielded_by c.enumerate-place-items.ensures.source c.records.ensures c.enumerate-place-items.ensures.count c.into_iter-place-iterator.ensures.into_iter_gives c.requires.0
+pub bounds-room-place : goal.bounds-room-place
+bounds-room-place c =
+    place-below _ _ _ _ _ _ _ _ _ c.in-Some.ensures.steps c.loop-place.yielded_by c.enumerate-place-items.ensures.source c.records.ensures c.enumerate-place-items.ensures.count c.into_iter-place-iterator.ensures.into_iter_gives c.requires
 
-pub offset_bounds-found-place : goal.offset_bounds-found-place
-offset_bounds-found-place c =
-    omega (arith, place-below _ _ _ _ _ _ _ _ _ c.in-Some.ensures.steps c.loop-place.yielded_by c.enumerate-place-items.ensures.source c.records.ensures c.enumerate-place-items.ensures.count c.into_iter-place-iterator.ensures.into_iter_gives c.requires.0)
+pub offset_bounds-room-place : goal.offset_bounds-room-place
+offset_bounds-room-place c =
+    omega (arith, place-below _ _ _ _ _ _ _ _ _ c.in-Some.ensures.steps c.loop-place.yielded_by c.enumerate-place-items.ensures.source c.records.ensures c.enumerate-place-items.ensures.count c.into_iter-place-iterator.ensures.into_iter_gives c.requires)
 
 pub loop-place-preserved : goal.loop-place-preserved
 loop-place-preserved c = search (rules, slotted-next, c.in-Some.ensures.steps)
 
-pub returns : goal.returns
-returns c = search (rules, all-walked, slotted-all, c.in-None.ensures.steps)
+pub invariant_of-result-clause-whole : goal.invariant_of-result-clause-whole
+invariant_of-result-clause-whole c = c.requires
+
+pub invariant_of-result-clause-bytes : goal.invariant_of-result-clause-bytes
+invariant_of-result-clause-bytes c = λ i. (c.type_inv.sheet i).fits
+
+pub invariant_of-result-clause-known : goal.invariant_of-result-clause-known
+invariant_of-result-clause-known c =
+    slotted-all _ _ _ _ c.loop-place.invariant
+    (all-walked _ _ _ _ c.enumerate-place-items.ensures.source c.records.ensures c.enumerate-place-items.ensures.count c.into_iter-place-iterator.ensures.into_iter_gives c.requires _ _ _ c.loop-place.yielded_by c.in-None.ensures.steps)
+    c.requires (search rules)

@@ -3,5 +3,5 @@ use Rattle.base.proofs.Prelude.{◌≡◌}
 use Rattle.sheet_reading.specs.Workers.Deciding.{table_existing_on}
 use Rattle.sheet_reading.proofs.refusal.Filled.existing_on.Given as goal
 
-abbrev pub invariant-loop-h : goal.invariant-loop-h
-invariant-loop-h l = l.sum ≡ table_existing_on l.self.kw.now l.h l.intertie
+abbrev pub invariant-loop-row : goal.invariant-loop-row
+invariant-loop-row l = l.sum ≡ table_existing_on l.self.kw.now l.row-index l.intertie

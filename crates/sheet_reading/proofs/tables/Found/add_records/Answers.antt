@@ -5,12 +5,12 @@ use Rattle.sheet_reading.proofs.tables.Found.add_records.Goals as goal
 pub loop-place-init-derived : goal.loop-place-init-derived
 loop-place-init-derived c = search (rules, places-counted)
 
-pub bounds-found-place : goal.bounds-found-place
-bounds-found-place c =
+pub bounds-self-place : goal.bounds-self-place
+bounds-self-place c =
     place-below _ _ _ _ _ _ _ _ _ c.in-Some.ensures.steps c.loop-place.yielded_by c.enumerate-place-items.ensures.source c.records.ensures c.enumerate-place-items.ensures.count c.into_iter-place-iterator.ensures.into_iter_gives c.args.self.whole
 
-pub offset_bounds-found-place : goal.offset_bounds-found-place
-offset_bounds-found-place c =
+pub offset_bounds-self-place : goal.offset_bounds-self-place
+offset_bounds-self-place c =
     omega (arith, place-below _ _ _ _ _ _ _ _ _ c.in-Some.ensures.steps c.loop-place.yielded_by c.enumerate-place-items.ensures.source c.records.ensures c.enumerate-place-items.ensures.count c.into_iter-place-iterator.ensures.into_iter_gives c.args.self.whole)
 
 pub loop-place-init : goal.loop-place-init
