@@ -11,7 +11,7 @@ ghost use Rattle.opening.specs.Open.{opened, quantities_found};
 use base::Granted;
 use base::limits::{MOST_HOLDERS, STATE_WORDS};
 use base::refusals::Refusal;
-use sheet_reading::refusal;
+use sheet_reading::refusal::Headed;
 use sheet_reading::tables::{Read, Tables};
 use sheet_records::words;
 
@@ -37,8 +37,9 @@ pub fn open_with_quantities(
         (answer_of result ≡ o.answer) × (state.new ≡ o.state)
         × (quantities.new ≡ quantities_found sheet.now s quantities.old) }
 {
+    let headed = Headed::of(sheet)?;
     let mut tables = Tables::empty();
-    refusal::read_sheet(sheet, &mut tables)?;
+    headed.read(&mut tables)?;
     if state.len() < STATE_WORDS {
         return Err(Refusal::Room);
     }

@@ -5,7 +5,7 @@ use mathlib.Core.Bool.{Bool, true, false, ◌&&◌, not}
 use mathlib.Core.Logic.{⊎_elim}
 use mathlib.Core.List.{List, []}
 use native.Mathlib.Omega.{arith}
-use native.Mathlib.Nat.{le_trans, mul-le-mul_right, add_assoc, suc-ne-zero, not-suc-le-zero}
+use native.Mathlib.Nat.{le_trans, mul-le-mul_right, add_assoc, suc-ne-zero}
 use lib.Dec.{leb, ltb, eqb}
 use lib.ListN.{length, take, drop, get_or, get_or-eq_default}
 use lib.Seq.{length-take-le}
@@ -19,15 +19,15 @@ use Rattle.std.specs.Simd.{first_chunks}
 use Rattle.base.proofs.SumLaws.{sum_to-bound, sum_to-same, all_to-same}
 use Rattle.sheet_records.specs.Sheet.{interties, holders, count, kw_at, sum_over, how_many, is_limit, is_load_share, is_new_use, limit, outside, existing, existing_on}
 use Rattle.sheet_records.specs.Refusal.{within, bad_length, bad_sizes, records_stand, one_limit_each, one_load_share_each, no_rank_twice, rules_hold, limits_hold, sheet_refusal}
+use Rattle.sheet_reading.specs.Headed.{headed}
 use Rattle.sheet_reading.specs.Tables.{slots, slot_of, limit_slot, outside_slot, load_share_slot, existing_slot, new_use_slot, table, count_table, kw_table, ReadSheet}
 use Rattle.sheet_reading.specs.Workers.Adding.{Filled}
 use Rattle.sheet_reading.specs.declared.tables.Tables.{Tables}
-use Rattle.base.specs.declared.refusals.Refusal.{Refusal}
-use Rattle.base.specs.Refused.{number_of}
+use Rattle.base.specs.declared.refusals.Refusal.TheVariants.{SheetLength, Sizes}
+use Rattle.base.specs.Refused.{number_in}
 use Rattle.base.specs.Choice.{pick}
-use Rattle.base.proofs.RefusedLaws.{numbered}
-use Rattle.std.proofs.Common.{◌||◌}
-use Rattle.sheet_reading.specs.Workers.Deciding.{header_refusal, table_rules_hold, table_existing_on, table_limit_holds, Modest}
+use Rattle.std.proofs.Common.{Ok, Err}
+use Rattle.sheet_reading.specs.Workers.Deciding.{table_rules_hold, table_existing_on, table_limit_holds, Modest}
 use Rattle.base.proofs.ChoiceLaws.{le-or-lt, test_by, both}
 use borrow.Author.Tests.{leb-true, le-leb}
 use Rattle.base.proofs.SumLaws.{all_to-rows}
@@ -150,8 +150,8 @@ sizes-decided s I H b ei eh eb = rw (← ei, ← eh) (ap not (eb ∙ and_assoc (
 
 -- refusals 1 and 2 as they are decided
 module _ (s : List ℕ) where
-  pub sizes-1 : (a : Bool) → a ≡ bad_length s → a ≡ true → 1 ≡ header_refusal s
-  unfolding header_refusal
+  pub sizes-1 : (a : Bool) → a ≡ bad_length s → a ≡ true → Err SheetLength ≡ headed s
+  unfolding headed
   sizes-1 a e t = simp (← e, t)
 
   module _ (a b : Bool) (e : a ≡ bad_length s) (f : a ≡ false) (I H : ℕ) (ei : I ≡ pick (ltb (length s) 12) 0 (interties s)) (eh : H ≡ pick (ltb (length s) 12) 0 (holders s))
@@ -159,35 +159,26 @@ module _ (s : List ℕ) where
     sizes-bad : not b ≡ bad_sizes s
     sizes-bad = let whole = sym e ∙ f in sizes-decided s I H b (long-enough s I _ whole ei) (long-enough s H _ whole eh) eb
 
-    pub sizes-2 : b ≡ false → 2 ≡ header_refusal s
-    unfolding header_refusal
+    pub sizes-2 : b ≡ false → Err Sizes ≡ headed s
+    unfolding headed
     sizes-2 t = simp (← e, f, ← sizes-bad, t)
 
-    pub sizes-0 : b ≡ true → 0 ≡ header_refusal s
-    unfolding header_refusal
+    pub sizes-0 : b ≡ true → Ok s ≡ headed s
+    unfolding headed
     sizes-0 t = simp (← e, f, ← sizes-bad, t)
 
   -- what they say
-  pub sizes-pass : header_refusal s ≡ 0 → (bad_length s ≡ false) × (bad_sizes s ≡ false)
-  unfolding header_refusal
+  pub sizes-pass : headed s ≡ Ok s → (bad_length s ≡ false) × (bad_sizes s ≡ false)
+  unfolding headed
   sizes-pass = go (bad_length s) (bad_sizes s)
     where
-      go : (a b : Bool) → ◌≡◌ {A = ℕ} (pick a 1 (pick b 2 0)) 0 → (a ≡ false) × (b ≡ false)
-      go true b e = absurd (suc-ne-zero 0 e)
-      go false true e = absurd (suc-ne-zero 1 e)
+      go : (a b : Bool) → pick a (Err SheetLength) (pick b (Err Sizes) (Ok s)) ≡ Ok s → (a ≡ false) × (b ≡ false)
+      go true b e = absurd (suc-ne-zero 0 (ap number_in e))
+      go false true e = absurd (suc-ne-zero 1 (ap number_in e))
       go false false e = (refl, refl)
 
-  pub sizes-refused : (r : Refusal) (n : ℕ) → n ≡ header_refusal s → n ≡ number_of r → (n ≡ sheet_refusal s) × (bad_length s || bad_sizes s ≡ true)
-  unfolding header_refusal sheet_refusal
-  sizes-refused r n e f = go (bad_length s) (bad_sizes s) _ e (rw f (numbered r))
-    where
-      go : (a b : Bool) (rest : ℕ) → n ≡ pick a 1 (pick b 2 0) → 1 ≤ n → (n ≡ pick a 1 (pick b 2 rest)) × (a || b ≡ true)
-      go true b rest p some = (p, refl)
-      go false true rest p some = (p, refl)
-      go false false rest p some = absurd (not-suc-le-zero (rw p at some))
-
 -- refusals 3 and 4 from what the code has read: the sizes, the tables, and the tests on them
-module _ (s : List ℕ) (passed : header_refusal s ≡ 0) (H I : ℕ) (eh : H ≡ pick (ltb (length s) 12) 0 (holders s)) (ei : I ≡ pick (ltb (length s) 12) 0 (interties s)) where
+module _ (s : List ℕ) (passed : headed s ≡ Ok s) (H I : ℕ) (eh : H ≡ pick (ltb (length s) 12) 0 (holders s)) (ei : I ≡ pick (ltb (length s) 12) 0 (interties s)) where
   sizes : Sized s
   sizes = sized s (sizes-pass s passed).1
 
@@ -224,18 +215,8 @@ module _ (s : List ℕ) (passed : header_refusal s ≡ 0) (H I : ℕ) (eh : H �
       unfolding sheet_refusal
       stands f = let p = sizes-pass s passed in simp (p.0, p.1, ← rules-decided, t, ← limits-decided, f)
 
--- the two ways that a reading ends
-pub read-refused : (s : List ℕ) (tables : Tables) (r : Refusal) (n : ℕ) → n ≡ header_refusal s → n ≡ number_of r → ReadSheet s tables (number_of r) tables
-read-refused s tables r n e f =
-    let p = sizes-refused s r n e f in
-    record {
-      answer = sym f ∙ p.0;
-      counted = simp p.1;
-      summed = simp p.1;
-      placed = simp p.1;
-    }
-
-pub read-filled : (s : List ℕ) (before now : Tables) (r : ℕ) → header_refusal s ≡ 0 → r ≡ sheet_refusal s → Filled s now → ReadSheet s before r now
+-- how a reading ends
+pub read-filled : (s : List ℕ) (before now : Tables) (r : ℕ) → headed s ≡ Ok s → r ≡ sheet_refusal s → Filled s now → ReadSheet s before r now
 read-filled s before now r e a t =
     let p = sizes-pass s e in
     record {

@@ -2,7 +2,7 @@
 use Prim.Native.Nat.{ℕ, ◌+◌, ◌-◌, ◌*◌, ◌≤◌, ◌<◌}
 use mathlib.Core.Path.{◌≡◌, refl, sym, ◌∙◌}
 use mathlib.Core.Bool.{Bool, true, false, ◌&&◌, not, false≢true}
-use mathlib.Core.List.{List}
+use mathlib.Core.List.{List, []}
 use native.Mathlib.Omega.{arith}
 use lib.ListN.{length}
 use native.Mathlib.Nat.{le_trans, mul-le-mul_left, mul-le-mul_right}
@@ -16,6 +16,13 @@ use Rattle.sheet_keys.specs.Key.{kind_of, holder_of, intertie_of, rank_of}
 use Rattle.sheet_records.specs.Sheet.{interties, holders, count, key_at, kw_at, sum_over, how_many, kw_of, is_limit, is_load_share, is_new_use, limit, outside, load_share, existing, existing_on, pre_ra, new_use_kw, new_use_intertie}
 use Rattle.sheet_records.specs.Refusal.{within, bad_length, bad_sizes, some_holder, no_holder, some_intertie, no_intertie, some_rank, no_rank, some_years, no_years, repeatable, record_stands, records_stand, one_limit_each, one_load_share_each, no_rank_twice, rules_hold, limits_hold, sheet_refusal}
 use Rattle.sheet_reading.specs.declared.tables.Tables.{Tables}
+use Rattle.std.proofs.Common.{Result, Ok, Err, ap}
+use native.Mathlib.Nat.{suc-ne-zero}
+use Rattle.base.specs.declared.refusals.Refusal.{Refusal}
+use Rattle.base.specs.declared.refusals.Refusal.TheVariants.{SheetLength, Sizes}
+use Rattle.base.specs.Refused.{number_of, number_in}
+use Rattle.base.proofs.RefusedLaws.{numbered}
+use Rattle.sheet_reading.specs.Headed.{headed}
 use Rattle.sheet_reading.specs.Tables.{ReadSheet}
 use Rattle.sheet_reading.specs.Workers.Adding.{Filled}
 use Rattle.base.proofs.ChoiceLaws.{both, equal-two, equal-three}
@@ -203,3 +210,27 @@ read-stands s before now r read e =
         placed = simp (c.0, c.1) at read.placed;
       },
     )
+
+abbrev given : Result (List ℕ) Refusal → List ℕ
+given (Ok s) = s
+given (Err r) = []
+
+-- a sheet's head: the sheet itself goes on, and what refuses the head refuses the sheet
+module _ (s : List ℕ) where
+  pub head-kept : (h : List ℕ) → headed s ≡ Ok h → h ≡ s
+  unfolding headed
+  head-kept h = go (bad_length s) (bad_sizes s)
+    where
+      go : (a b : Bool) → pick a (Err SheetLength) (pick b (Err Sizes) (Ok s)) ≡ Ok h → h ≡ s
+      go true b e = absurd (suc-ne-zero 0 (ap number_in e))
+      go false true e = absurd (suc-ne-zero 1 (ap number_in e))
+      go false false e = sym (ap given e)
+
+  pub head-refused : (r : Refusal) → headed s ≡ Err r → number_of r ≡ sheet_refusal s
+  unfolding headed sheet_refusal
+  head-refused r = go (bad_length s) (bad_sizes s) _
+    where
+      go : (a b : Bool) (rest : ℕ) → pick a (Err SheetLength) (pick b (Err Sizes) (Ok s)) ≡ Err r → number_of r ≡ pick a 1 (pick b 2 rest)
+      go true b rest e = sym (ap number_in e)
+      go false true rest e = sym (ap number_in e)
+      go false false rest e = omega (arith, ap number_in e, numbered r)

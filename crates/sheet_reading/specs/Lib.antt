@@ -1,2 +1,3 @@
+pub mod Headed
 pub mod Tables
 pub mod Workers

@@ -1,13 +1,14 @@
 // Refusals 1 to 4 of a sheet, lowest first, and the tables of the sheet.
-ghost use Rattle.std.specs.Prelude.{◌≡◌, ◌≤◌, ◌<◌, length, replicate};
+ghost use Rattle.std.specs.Prelude.{◌≡◌, ◌≤◌, ◌<◌, length, replicate, Ok};
 ghost use Rattle.base.specs.Limits.{most_holders};
 ghost use Rattle.base.specs.Sums.{all_to};
 ghost use Rattle.base.specs.Words.{at};
 ghost use Rattle.sheet_keys.specs.Key.{key_interties};
 ghost use Rattle.base.specs.Refused.{number_in};
 ghost use Rattle.sheet_records.specs.Refusal.{within, sheet_refusal};
+ghost use Rattle.sheet_reading.specs.Headed.{headed};
 ghost use Rattle.sheet_reading.specs.Tables.{slots, count_table, kw_table, ReadSheet};
-ghost use Rattle.sheet_reading.specs.Workers.Deciding.{header_refusal, table_rules_hold, table_existing_on, table_limit_holds, Modest};
+ghost use Rattle.sheet_reading.specs.Workers.Deciding.{table_rules_hold, table_existing_on, table_limit_holds, Modest};
 
 use crate::tables::{Found, HOLDER_INTERTIES, SLOTS, Tables};
 use crate::{rules, tables};
@@ -15,18 +16,38 @@ use base::limits;
 use base::limits::MOST_RECORDS;
 use base::refusals::Refusal;
 use sheet_records::words;
+use std::marker::Model;
 
-// Refusals 1 and 2, those of the length and of I and H.
-fn check_header(sheet: &[u8]) -> Result<(), Refusal>
-    ensures { number_in result ≡ header_refusal sheet.now }
-{
-    if words::bad_length(sheet) {
-        return Err(Refusal::SheetLength);
+// A sheet that refusals 1 and 2 let pass: its length is that of its records, and I and H are in range. A clause sees its bytes.
+#[derive(Drop)]
+pub struct Headed<'a> {
+    sheet: &'a [u8],
+}
+
+impl<'a> Model for Headed<'a> {
+    ghost use Rattle.std.specs.Prelude.{◌≡◌, ℕ, List, Ok};
+    ghost use Rattle.sheet_reading.specs.Headed.{headed};
+
+    ghost Value = { List ℕ };
+
+    ghost view = { λ h. h.sheet.now };
+
+    ghost invariant = { λ h. headed h.sheet.now ≡ Ok h.sheet.now };
+}
+
+impl<'a> Headed<'a> {
+    // Refusals 1 and 2, those of the length and of I and H.
+    pub fn of(sheet: &'a [u8]) -> Result<Headed<'a>, Refusal>
+        ensures { result ≡ headed sheet.now }
+    {
+        if words::bad_length(sheet) {
+            return Err(Refusal::SheetLength);
+        }
+        if !limits::sizes_in_range(words::intertie_count(sheet), words::holder_count(sheet)) {
+            return Err(Refusal::Sizes);
+        }
+        Ok(Headed { sheet })
     }
-    if !limits::sizes_in_range(words::intertie_count(sheet), words::holder_count(sheet)) {
-        return Err(Refusal::Sizes);
-    }
-    Ok(())
 }
 
 // Whether each of these slots counts from LEAST to MOST records. All of them are looked at, so that no branch stands between
@@ -104,7 +125,7 @@ impl Filled<'_> {
 
 // Refusals 3 and 4 of a sheet that 1 and 2 let pass, and its records in cleared tables.
 fn read_sized(found: Found, counts: &mut [u16; SLOTS], kw: &mut [u64; SLOTS]) -> Result<(), Refusal>
-    requires { (header_refusal found.sheet.now ≡ 0) × (counts.old ≡ replicate slots 0) × (kw.old ≡ replicate slots 0) }
+    requires { (headed found.sheet.now ≡ Ok found.sheet.now) × (counts.old ≡ replicate slots 0) × (kw.old ≡ replicate slots 0) }
     ensures { let sheet = found.entry.sheet.now in
         (number_in result ≡ sheet_refusal sheet) × (counts.new ≡ count_table sheet) × (kw.new ≡ kw_table sheet) }
 {
@@ -130,18 +151,19 @@ fn read_sized(found: Found, counts: &mut [u16; SLOTS], kw: &mut [u64; SLOTS]) ->
     Ok(())
 }
 
-// Refuses a sheet, or lets it pass, and fills the tables of its records (docs/RULES.md, "The sheet"). The tables may have any
-// content before; where refusal 1 or 2 applies they keep it. (Lent: in an answer their 150 KB would be copied, as those of
-// `find_slots` were.)
-pub fn read_sheet(sheet: &[u8], tables: &mut Tables) -> Result<(), Refusal>
-    ensures { ReadSheet sheet.now tables.old (number_in result) tables.new }
-{
-    check_header(sheet)?;
-    *tables = Tables::empty();
-    let mut room = [0; MOST_RECORDS];
-    let found = tables::find_slots(sheet, &mut room);
-    found.place_records(&mut tables.interties);
-    read_sized(found, &mut tables.counts, &mut tables.kw)
+impl Headed<'_> {
+    // Refusals 3 and 4, and the tables of the sheet's records (docs/RULES.md, "The sheet"). The tables may have any content before.
+    // (Lent: in an answer their 150 KB would be copied. Of a sheet with its head read, so that no test stands between a caller's
+    // making of the tables and this clearing, and they are cleared once.)
+    pub fn read(&self, tables: &mut Tables) -> Result<(), Refusal>
+        ensures { ReadSheet self.now tables.old (number_in result) tables.new }
+    {
+        *tables = Tables::empty();
+        let mut room = [0; MOST_RECORDS];
+        let found = tables::find_slots(self.sheet, &mut room);
+        found.place_records(&mut tables.interties);
+        read_sized(found, &mut tables.counts, &mut tables.kw)
+    }
 }
 
 // Refuses a sheet, or lets it pass (docs/RULES.md, "The sheet"). (Two tables and no `Tables`: a refusal alone has no use for the
@@ -149,9 +171,9 @@ pub fn read_sheet(sheet: &[u8], tables: &mut Tables) -> Result<(), Refusal>
 pub fn sheet_refusal(sheet: &[u8]) -> Result<(), Refusal>
     ensures { number_in result ≡ sheet_refusal sheet.now }
 {
-    check_header(sheet)?;
+    let headed = Headed::of(sheet)?;
     let mut room = [0; MOST_RECORDS];
-    let found = tables::find_slots(sheet, &mut room);
+    let found = tables::find_slots(headed.sheet, &mut room);
     let mut counts = [0; SLOTS];
     let mut kw = [0; SLOTS];
     read_sized(found, &mut counts, &mut kw)

@@ -1,18 +1,11 @@
--- Refusals 1 and 2 apart, and 3 and 4 as they are decided from tables: of a sheet's own tables these are the rules of the sheet.
+-- Refusals 3 and 4 as they are decided from tables: of a sheet's own tables these are the rules of the sheet.
 use Rattle.std.specs.Prelude.{ℕ, ◌+◌, ◌*◌, ◌≤◌, Bool, ◌&&◌, List, eqb, leb}
-use Rattle.base.specs.Choice.{pick}
-use Rattle.base.specs.Refusals.{sheet_length_refused, sizes_refused}
-use Rattle.sheet_records.specs.Refusal.{bad_length, bad_sizes}
 use Rattle.base.specs.Sums.{sum_to, all_to}
 use Rattle.base.specs.Words.{at}
 use Rattle.base.specs.Limits.{most_records}
 use Rattle.sheet_keys.specs.Key.{key_ranks}
 use Rattle.sheet_records.specs.Sheet.{most_word}
 use Rattle.sheet_reading.specs.Tables.{limit_slot, outside_slot, load_share_slot, existing_slot, new_use_slot}
-
--- refusals 1 and 2, 0 where neither applies
-unfoldable pub header_refusal : List ℕ → ℕ
-header_refusal s = pick (bad_length s) sheet_length_refused (pick (bad_sizes s) sizes_refused 0)
 
 -- the rules that count records, by a table of counts; stand says whether each record keeps its own
 abbrev pub table_rules_hold : Bool → List ℕ → ℕ → ℕ → Bool

@@ -1,17 +1,21 @@
--- `refusal::sheet_refusal` meets its contract: refusals 1 and 2 by their tests, 3 and 4 by a reading into cleared tables.
+-- `refusal::sheet_refusal` meets its contract: refusals 1 and 2 by the head, 3 and 4 by a reading into cleared tables.
 use Rattle.base.proofs.Prelude.{ap, sym, ◌∙◌, refl}
-use Rattle.base.specs.Refused.{number_in}
 use Rattle.base.proofs.RefusedLaws.{handed-on}
-use Rattle.sheet_reading.proofs.DecideLaws.{sizes-pass, sizes-refused}
+use Rattle.sheet_records.specs.Refusal.{sheet_refusal}
+use Rattle.sheet_reading.proofs.DecideLaws.{sizes-pass}
+use Rattle.sheet_reading.proofs.SheetLaws.{head-kept, head-refused}
 use Rattle.sheet_reading.proofs.refusal.sheet_refusal.Goals as goal
 
-pub returns-in_err-check_header : goal.returns-in_err-check_header
-returns-in_err-check_header c =
-    handed-on _ _ c.from_residual.ensures.1
-    ∙ (sizes-refused _ _ _ (sym (ap number_in c.in_err-check_header.was) ∙ c.check_header.ensures) refl).0
+pub returns-in_err-headed : goal.returns-in_err-headed
+returns-in_err-headed c = handed-on _ _ c.from_residual.ensures.1 ∙ head-refused _ _ (sym c.of.ensures ∙ c.in_err-headed.was)
 
 pub find_slots-found-requires : goal.find_slots-found-requires
-find_slots-found-requires c = (sizes-pass _ (sym c.check_header.ensures ∙ ap number_in c.in_ok-check_header.was)).0
+find_slots-found-requires c = (sizes-pass _ c.headed.invariant).0
 
 pub read_sized-requires : goal.read_sized-requires
-read_sized-requires c = (rw c.find_slots-found.ensures (sym c.check_header.ensures ∙ ap number_in c.in_ok-check_header.was), refl, refl)
+read_sized-requires c = (rw c.find_slots-found.ensures c.headed.invariant, refl, refl)
+
+pub returns : goal.returns
+returns c =
+    (rw c.find_slots-found.ensures at c.read_sized.ensures).0
+    ∙ ap sheet_refusal (c.headed.view_is ∙ head-kept _ _ (sym c.of.ensures ∙ c.in_ok-headed.was))
