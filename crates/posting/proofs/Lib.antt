@@ -1,4 +1,3 @@
-pub mod RowParts
 pub mod PostLaws
 pub mod PostedRows
 pub mod Examples

@@ -1,6 +1,6 @@
 use Rattle.base.proofs.Prelude.{rules}
 use Rattle.base.proofs.VectorLaws.{filling-none, filling-next}
-use Rattle.posting.proofs.RowParts.{row_filled}
+use Rattle.state_rows.proofs.RowParts.{row_filled}
 use Rattle.posting.proofs.lines.fill_row.Goals as goal
 
 pub loop-column-init : goal.loop-column-init
