@@ -182,7 +182,8 @@ fn complete(
 }
 
 // Shares the pool out in passes until it is empty; hands back how many were made. From pass to pass it keeps W
-// (`all`) and the weight that each holder brings into it, which is 0 once its claim is met. (By place, as in `serve_in_turn`.)
+// (`all`) and the weight that each holder brings into it, which is 0 once its claim is met. (The labelled loop is asked for:
+// docs/RULES.md, "Forms in the code". The loop over holders goes by place, as in `serve_in_turn`.)
 fn by_passes(pool: u64, claims: &[u64], weights: &[u64], grants: &mut [u64]) -> u64
     requires { Ready pool claims.now weights.now grants.old }
     ensures { shared pool claims.now weights.now
@@ -192,7 +193,10 @@ fn by_passes(pool: u64, claims: &[u64], weights: &[u64], grants: &mut [u64]) -> 
     let mut all = weigh_open(claims, weights, &mut open_weights);
     let mut left = pool;
     let mut made = 0;
-    while 0 < left {
+    let passes = 'passes: loop {
+        if left == 0 {
+            break 'passes made;
+        }
         let rate = rate_of(left, all);
         let mut given = 0;
         let mut still_open = 0;
@@ -209,8 +213,8 @@ fn by_passes(pool: u64, claims: &[u64], weights: &[u64], grants: &mut [u64]) -> 
         left -= complete(given, left, all, claims, &open_weights, grants);
         all = still_open;
         made += 1;
-    }
-    made
+    };
+    passes
 }
 
 // Shares out what refusals 5 and 9 let pass: each claim whole where they fit, else by passes.

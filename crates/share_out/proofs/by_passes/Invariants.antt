@@ -6,8 +6,8 @@ abbrev pub invariant-loop-i : goal.invariant-loop-i
 invariant-loop-i l =
     Turns l.left l.claims l.weights l.initial.grants l.initial.open_weights l.grants l.open_weights l.given l.still_open l.i
 
-abbrev pub invariant-loop-left : goal.invariant-loop-left
-invariant-loop-left l = Between l.pool l.claims l.weights l.grants l.open_weights l.left l.all l.made
+abbrev pub invariant-passes : goal.invariant-passes
+invariant-passes l = Between l.pool l.claims l.weights l.grants l.open_weights l.left l.all l.made
 
-abbrev pub decreases-loop-left : goal.decreases-loop-left
-decreases-loop-left l = l.left
+abbrev pub decreases-passes : goal.decreases-passes
+decreases-passes l = l.left
