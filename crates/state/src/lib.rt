@@ -10,7 +10,7 @@ ghost use Rattle.state.specs.Layout.{place, interties, holders, stage_of};
 
 use layout::ROW_WORDS;
 
-// The word of a row and column: 0 past the end. (0 and no Option, here and in all that reads a state: the callers'
+// The word of a row and column: 0 past the end. (0 and no Option, here and in what follows: the callers'
 // contracts say `at`, which is 0 past the end, so each would write 0 for a None. A call has tested the length before.)
 pub fn word(state: &[u32], row: u32, column: u32) -> u32
     ensures { result ≡ at state.now (place row column) }

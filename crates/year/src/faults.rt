@@ -31,7 +31,8 @@ pub(super) enum Failure {
 }
 
 impl Failure {
-    // Says it on standard error, in a line. (No Display: the name in it is bytes that may be no text, which a formatter can't write.)
+    // Says it on standard error, in a line. (No Display: the line has a file's name, which `env` is
+    // asked for and which may be no text.)
     pub(super) fn report(self, env: &impl Env, stderr: &impl Print) {
         match self {
             Failure::Usage => say(stderr, b"usage: year SHEET JOURNAL [NEXT-SHEET]\n"),
