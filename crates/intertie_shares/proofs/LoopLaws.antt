@@ -18,7 +18,7 @@ use Rattle.base.specs.declared.Answer.{Answer}
 use Rattle.base.specs.declared.Granted.{Granted}
 use Rattle.base.proofs.SumLaws.{sum_to-zero, sum_to-more, sum_to-mono, sum_to-term, all_to-each}
 use Rattle.base.proofs.VectorLaws.{at-row}
-use Rattle.base.proofs.WordLaws.{take-tab, length-tab, at-tab, fill-whole}
+use Rattle.base.proofs.WordLaws.{tab-at, length-tab, at-tab, fill-whole}
 use Rattle.share_out.specs.Rule.{Outcome, shared, unfit_lengths, unfit_numbers, shared_answer, share_out}
 use Rattle.intertie_shares.specs.Pairs.{pair_at, at_pair, column, fill_column, fill_table}
 use Rattle.intertie_shares.specs.Rule.{among_holders, share_out_on, grant_on, kw_over, passes_over, over_interties}
@@ -74,20 +74,21 @@ settled pool claims weights output empty n m =
     (settled-by (unfit_lengths (length claims) (length weights) (length empty)) (unfit_numbers pool claims weights) (shared_answer pool claims weights) output empty
     (fill (length claims) g empty) refl)
 
--- claims that are gathered and the first weights are what the definition shares out over, and its output is scattered
-pub shared-on : (i H : ℕ) (pools claims weights claimed before output after-it grants after : List ℕ) (r : Answer) (g : Granted) → H ≤ length weights →
+-- claims that are gathered and the weights are what the definition shares out over, and its output is scattered
+pub shared-on : (i H : ℕ) (pools claims weights claimed before output after-it grants after : List ℕ) (r : Answer) (g : Granted) → length weights ≡ H →
     claimed ≡ column claims H i → length before ≡ H → length output ≡ H →
-    (r ≡ (share_out (at pools i) claimed (take H weights) before).answer) × (output ≡ (share_out (at pools i) claimed (take H weights) before).output) →
+    (r ≡ (share_out (at pools i) claimed weights before).answer) × (output ≡ (share_out (at pools i) claimed weights before).output) →
     (g.kw ≡ r.kw) × (g.passes ≡ r.passes) × (after-it ≡ pick (eqb r.refusal 0) output (tab (length output) (λ h. 0))) →
     after ≡ fill_column i (length after-it) (at after-it) grants → SharedOn i H pools claims weights grants g after
 unfolding among_holders
-shared-on i H pools claims weights claimed before output after-it grants after r g enough c room size o f a =
+shared-on i H pools claims weights claimed before output after-it grants after r g whole c room size o f a =
+    let all : tab H (at weights) ≡ weights = ap (λ n. tab n (at weights)) (sym whole) ∙ tab-at weights in
     let n : length claimed ≡ H = ap (λ l. length l) c ∙ length-tab H (λ h. at_pair claims h i) in
     let empty : List ℕ = tab H (λ h. 0) in
-    let made : Outcome = share_out (at pools i) claimed (take H weights) before in
-    let s = settled (at pools i) claimed (take H weights) before empty (room ∙ sym n) (length-tab H (λ h. 0) ∙ sym n) in
-    let same : share_out (at pools i) claimed (take H weights) empty ≡ share_out_on H (at pools) (at_pair claims) (at weights) i =
-    rw (take-tab H weights enough, c) in
+    let made : Outcome = share_out (at pools i) claimed weights before in
+    let s = settled (at pools i) claimed weights before empty (room ∙ sym n) (length-tab H (λ h. 0) ∙ sym n) in
+    let same : share_out (at pools i) claimed weights empty ≡ share_out_on H (at pools) (at_pair claims) (at weights) i =
+    rw c (ap (λ (w : List ℕ). share_out (at pools i) (column claims H i) w empty) (sym all)) in
     let cleared : after-it ≡ pick (eqb r.refusal 0) output empty = rw size at f.2 in
     let answer : r ≡ (share_out_on H (at pools) (at_pair claims) (at weights) i).answer = o.0 ∙ s.0 ∙ ap (λ (x : Outcome). x.answer) same in
     let out : after-it ≡ (share_out_on H (at pools) (at_pair claims) (at weights) i).output =
@@ -103,16 +104,12 @@ shared-on i H pools claims weights claimed before output after-it grants after r
     }
 
 -- the word of holder h on intertie i in its row of a table
-pub word-in_row : (I H i h : ℕ) (rows : List (List ℕ)) (claims : List ℕ) → rows ≡ first_chunks 48 (length claims / 48) claims →
+pub claim-in_row : (I H i h : ℕ) (rows : List (List ℕ)) (claims : List ℕ) → rows ≡ take H (first_chunks 48 (length claims / 48) claims) →
     1536 ≤ length claims → I ≤ 48 → H ≤ 32 → i < I → h < H → at (get_or rows h []) i ≡ at_pair claims h i
-word-in_row I H i h rows claims e whole few some low l =
-    ap (λ r. at (get_or r h []) i) e ∙ at-row 48 (length claims / 48) h i claims (omega arith) (omega arith)
-
--- and in a row of the first H holders
-pub claim-in_row : (I H i h : ℕ) (rows : List (List ℕ)) (claims : List ℕ) → rows ≡ first_chunks 48 (length claims / 48) claims →
-    1536 ≤ length claims → I ≤ 48 → H ≤ 32 → i < I → h < H → at (get_or (take H rows) h []) i ≡ at_pair claims h i
 claim-in_row I H i h rows claims e whole few some low l =
-    ap (λ row. at row i) (get_or-take H rows h [] l) ∙ word-in_row I H i h rows claims e whole few some low l
+    ap (λ r. at (get_or r h []) i) e
+    ∙ ap (λ row. at row i) (get_or-take H (first_chunks 48 (length claims / 48) claims) h [] l)
+    ∙ at-row 48 (length claims / 48) h i claims (omega arith) (omega arith)
 
 -- after h claims: what they leave of the pool
 pub record Claiming (pool : ℕ) (f : ℕ → ℕ) (left h : ℕ) : Type 0 where

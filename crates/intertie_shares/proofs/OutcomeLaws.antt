@@ -9,11 +9,13 @@ use borrow.Author.Tests.{ltb-false, le-ltb, lt-ltb}
 use Rattle.base.specs.Words.{at}
 use Rattle.base.specs.Answers.{refused}
 use Rattle.base.proofs.ChoiceLaws.{or_left, or_right}
-use Rattle.std.proofs.lemmas.List.{take-append-drop, length-take-le}
+use Rattle.base.proofs.SumLaws.{sum_to-same}
+use Rattle.std.proofs.lemmas.List.{get_or-take, take-append-drop, length-take-le}
 use Rattle.intertie_shares.specs.Pairs.{at_pair, fill_table}
-use Rattle.intertie_shares.specs.Rule.{grant_on, over_interties, unfit_sizes, share_out_each}
+use Rattle.intertie_shares.specs.Rule.{share_out_on, grant_on, kw_over, passes_over, over_interties, unfit_sizes, share_out_each}
 use Rattle.intertie_shares.specs.Workers.Fit.{Sized}
-use Rattle.intertie_shares.proofs.PairLaws.{fill_table-front}
+use Rattle.intertie_shares.proofs.PairLaws.{fill_table-front, fill_table-same}
+use Rattle.intertie_shares.proofs.HolderLaws.{among_same}
 use Rattle.share_out.specs.Rule.{Outcome}
 use native.Mathlib.Omega.{arith}
 
@@ -58,6 +60,21 @@ or_last false false false false false f = refl
 sizes-by-room : (I H pools claims weights grants : ℕ) →
     unfit_sizes I H pools claims weights grants ≡ unfit_sizes I H pools claims weights 1536 || ltb grants 1536
 sizes-by-room I H pools claims weights grants = or_last (ltb 48 I) (ltb 32 H) (ltb pools I) (ltb weights H) (ltb claims 1536) (ltb grants 1536)
+
+-- the pools and the weights that are counted are shared out as in longer lists of them
+pub over-cut : (I H : ℕ) (pools weights grants : List ℕ) (claim : ℕ → ℕ → ℕ) → I ≤ length pools → H ≤ length weights →
+    over_interties (length (take H weights)) (at (take I pools)) claim (at (take H weights)) (length (take I pools)) grants
+    ≡ over_interties H (at pools) claim (at weights) I grants
+over-cut I H pools weights grants claim p w =
+    let on : (i : ℕ) → i < I → share_out_on H (at (take I pools)) claim (at (take H weights)) i ≡ share_out_on H (at pools) claim (at weights) i =
+    λ i l. among_same H (λ h. claim h i) (λ h. claim h i) (at (take H weights)) (at weights) (get_or-take I pools i 0 l) (λ h m. refl) (λ h m. get_or-take H weights h 0 m) in
+    let kw : kw_over H (at (take I pools)) claim (at (take H weights)) I ≡ kw_over H (at pools) claim (at weights) I =
+    sum_to-same I _ _ (λ i l. ap (λ (o : Outcome). o.answer.kw) (on i l)) in
+    let passes : passes_over H (at (take I pools)) claim (at (take H weights)) I ≡ passes_over H (at pools) claim (at weights) I =
+    sum_to-same I _ _ (λ i l. ap (λ (o : Outcome). o.answer.passes) (on i l)) in
+    let written : fill_table I H (grant_on H (at (take I pools)) claim (at (take H weights))) grants ≡ fill_table I H (grant_on H (at pools) claim (at weights)) grants =
+    fill_table-same I H _ _ grants (λ h i l m. ap (λ (o : Outcome). at o.output h) (on i m)) in
+    rw (length-take-le H weights w, length-take-le I pools p, kw, passes, written)
 
 -- the call by cases: refused with 5, and done
 module _ (I H : ℕ) (pools claims weights grants : List ℕ) where

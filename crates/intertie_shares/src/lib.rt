@@ -2,7 +2,8 @@
 // (docs/RULES.md, "Opening" and "Calls of the year").
 #![tactic(auto)]
 
-ghost use Rattle.std.specs.Prelude.{◌≡◌, ◌≤◌, ◌<◌, leb, eqb, length, SomeIff};
+ghost use Rattle.std.specs.Prelude.{◌≡◌, ◌/◌, ◌≤◌, ◌<◌, leb, eqb, length, take, SomeIff};
+ghost use Rattle.std.specs.Simd.{first_chunks};
 ghost use Rattle.base.specs.Answers.{granted};
 ghost use Rattle.base.specs.Choice.{pick};
 ghost use Rattle.base.specs.Limits.{most_load_share, most_interties, most_holders, most_pairs};
@@ -48,7 +49,8 @@ fn settle(made: Result<Granted, Refusal>, output: &mut [u64]) -> Granted
     }
 }
 
-// Scatters the holders' words over an intertie of a table. (By place: of `as_chunks_mut` nothing is said of what the slice ends as.)
+// Scatters the holders' words over an intertie of a table. (By place: of `as_chunks_mut` nothing is said of what the slice ends as.
+// `grant_claims` fills such a column from rows: one function over a closure would read both by place, where each goes through its list.)
 fn scatter(words: &[u64], intertie: usize, table: &mut [u64; MOST_PAIRS])
     requires { (intertie < most_interties) × (length words.now ≤ most_holders) }
     ensures { let words = words.now in
@@ -59,32 +61,37 @@ fn scatter(words: &[u64], intertie: usize, table: &mut [u64; MOST_PAIRS])
     }
 }
 
-// What is shared out: a pool for each intertie, a claim for each pair and a weight for each holder, how many there are of
-// both, and whether the share-out takes every weight. (The claims as a slice: an array of its first words would not be the list that
-// the clauses name.)
+// What is shared out: a pool for each intertie, a claim for each pair and a weight for each holder, and whether the share-out takes
+// every weight. (The claims as a slice: an array of its first words would not be the list that the clauses name.)
 #[derive(Clone, Copy)]
 struct Claims<'a> {
-    interties: usize,
-    holders: usize,
     pools: &'a [u64],
     claims: &'a [u64],
     weights: &'a [u64],
     weighable: bool,
-    ghost few_interties: { interties ≤ most_interties },
-    ghost few_holders: { holders ≤ most_holders },
-    ghost pooled: { interties ≤ length pools.now },
+    ghost few_interties: { length pools.now ≤ most_interties },
+    ghost few_holders: { length weights.now ≤ most_holders },
     ghost claimed: { most_pairs ≤ length claims.now },
-    ghost weighed: { holders ≤ length weights.now },
-    ghost light: { weighable ≡ all_to holders (λ h. leb (at weights.now h) most_load_share) },
+    ghost light: { weighable ≡ all_to (length weights.now) (λ h. leb (at weights.now h) most_load_share) },
 }
 
-impl Claims<'_> {
-    // Gathers what the holders claim on an intertie. (Rows by place: what a zip of `iter_mut` lends is lost to the proof.)
-    fn gather(self, intertie: usize, claimed: &mut [u64])
-        requires { (intertie < self.interties) × (length claimed.old ≡ self.holders) }
-        ensures { claimed.new ≡ column self.entry.claims.now self.entry.holders intertie }
+impl<'a> Claims<'a> {
+    // The holders' rows of claims.
+    fn rows(self) -> &'a [[u64; MOST_INTERTIES]]
+        ensures { let claims = self.entry.claims.now in
+            (result.now ≡ take (length self.entry.weights.now) (first_chunks most_interties (length claims / most_interties) claims))
+            × (length result.now ≡ length self.entry.weights.now) }
     {
         let (rows, _) = self.claims.as_chunks::<MOST_INTERTIES>();
+        &rows[..self.weights.len()]
+    }
+
+    // Gathers what the holders claim on an intertie. (Rows by place: what a zip of `iter_mut` lends is lost to the proof.)
+    fn gather(self, intertie: usize, claimed: &mut [u64])
+        requires { (intertie < length self.pools.now) × (length claimed.old ≡ length self.weights.now) }
+        ensures { claimed.new ≡ column self.entry.claims.now (length self.entry.weights.now) intertie }
+    {
+        let rows = self.rows();
         for (h, claim) in claimed.iter_mut().enumerate() {
             *claim = rows[h][intertie];
         }
@@ -92,14 +99,13 @@ impl Claims<'_> {
 
     // The claims on an intertie together, or none where they exceed its pool.
     fn claimed_on(self, intertie: usize) -> Option<u64>
-        requires { intertie < self.interties }
-        ensures { let claimed = sum_to self.entry.holders (λ h. at_pair self.entry.claims.now h intertie) in
+        requires { intertie < length self.pools.now }
+        ensures { let claimed = sum_to (length self.entry.weights.now) (λ h. at_pair self.entry.claims.now h intertie) in
             SomeIff result (claimed ≤ at self.entry.pools.now intertie) claimed }
     {
-        let (rows, _) = self.claims.as_chunks::<MOST_INTERTIES>();
         let pool = self.pools[intertie];
         let mut left = pool;
-        for row in &rows[..self.holders] {
+        for row in self.rows() {
             left = left.checked_sub(row[intertie])?;
         }
         Some(pool - left)
@@ -107,12 +113,11 @@ impl Claims<'_> {
 
     // Grants each claim on an intertie whole. (By place, as in `scatter`.)
     fn grant_claims(self, intertie: usize, grants: &mut [u64; MOST_PAIRS])
-        requires { intertie < self.interties }
+        requires { intertie < length self.pools.now }
         ensures { let claim = at_pair self.entry.claims.now in
-            grants.new ≡ fill_column intertie self.entry.holders (λ h. claim h intertie) grants.old }
+            grants.new ≡ fill_column intertie (length self.entry.weights.now) (λ h. claim h intertie) grants.old }
     {
-        let (rows, _) = self.claims.as_chunks::<MOST_INTERTIES>();
-        for (h, row) in rows[..self.holders].iter().enumerate() {
+        for (h, row) in self.rows().iter().enumerate() {
             grants[MOST_INTERTIES * h + intertie] = row[intertie];
         }
     }
@@ -126,15 +131,14 @@ impl Claims<'_> {
         output: &mut [u64; MOST_HOLDERS],
         grants: &mut [u64; MOST_PAIRS],
     ) -> Granted
-        requires { intertie < self.interties }
-        ensures { SharedOn intertie self.entry.holders self.entry.pools.now self.entry.claims.now
+        requires { intertie < length self.pools.now }
+        ensures { SharedOn intertie (length self.entry.weights.now) self.entry.pools.now self.entry.claims.now
             self.entry.weights.now grants.old result grants.new }
     {
-        let claimed = &mut claimed[..self.holders];
-        let output = &mut output[..self.holders];
+        let claimed = &mut claimed[..self.weights.len()];
+        let output = &mut output[..self.weights.len()];
         self.gather(intertie, claimed);
-        let weights = &self.weights[..self.holders];
-        let made = share_out::share_out(self.pools[intertie], claimed, weights, output);
+        let made = share_out::share_out(self.pools[intertie], claimed, self.weights, output);
         let granted = settle(made, output);
         scatter(output, intertie, grants);
         granted
@@ -149,8 +153,8 @@ impl Claims<'_> {
         output: &mut [u64; MOST_HOLDERS],
         grants: &mut [u64; MOST_PAIRS],
     ) -> Granted
-        requires { intertie < self.interties }
-        ensures { SharedOn intertie self.entry.holders self.entry.pools.now self.entry.claims.now
+        requires { intertie < length self.pools.now }
+        ensures { SharedOn intertie (length self.entry.weights.now) self.entry.pools.now self.entry.claims.now
             self.entry.weights.now grants.old result grants.new }
     {
         if self.weighable & (self.pools[intertie] <= MOST_KW) {
@@ -165,15 +169,15 @@ impl Claims<'_> {
     // Shares out on each intertie in turn; hands back kW and passes over all.
     fn on_each(self, grants: &mut [u64; MOST_PAIRS]) -> Granted
         ensures { let given = self.entry in
-            let made = over_interties given.holders (at given.pools.now) (at_pair given.claims.now) (at given.weights.now) given.interties
-            grants.old in
+            let made = over_interties (length given.weights.now) (at given.pools.now) (at_pair given.claims.now) (at given.weights.now)
+            (length given.pools.now) grants.old in
             (granted result.kw result.passes ≡ made.answer) × (grants.new ≡ made.output) }
     {
         let mut claimed = [0u64; MOST_HOLDERS];
         let mut output = [0u64; MOST_HOLDERS];
         let mut kw = 0;
         let mut passes = 0;
-        for i in 0..self.interties {
+        for i in 0..self.pools.len() {
             let granted = self.share_out_on(i, &mut claimed, &mut output, grants);
             kw += granted.kw;
             passes += granted.passes;
@@ -201,10 +205,10 @@ pub fn share_out_each(
     let Some(grants) = grants.first_chunk_mut::<MOST_PAIRS>() else {
         return Err(Refusal::Room);
     };
-    let weighable = vectors::all_within(&weights[..holders], MOST_LOAD_SHARE);
+    let pools = &pools[..interties];
+    let weights = &weights[..holders];
+    let weighable = vectors::all_within(weights, MOST_LOAD_SHARE);
     let claims = Claims {
-        interties,
-        holders,
         pools,
         claims,
         weights,
