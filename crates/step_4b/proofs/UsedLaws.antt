@@ -1,5 +1,5 @@
 -- Sixteen zeros at a time: what their bits tell, and what a loop over the sixteens keeps.
-use Prim.Native.Nat.{ℕ, ◌+◌, ◌-◌, ◌≤◌}
+use Prim.Native.Nat.{ℕ, ◌-◌, ◌≤◌}
 use mathlib.Core.Path.{◌≡◌, sym, ap, ◌∙◌}
 use mathlib.Core.Bool.{true}
 use mathlib.Core.List.{List}
@@ -16,26 +16,26 @@ use Rattle.base.proofs.ListLaws.{fold-or-most}
 use Rattle.base.proofs.VectorLaws.{at_mid}
 use Rattle.step_4b.specs.Workers.Used.{Zeros, Used}
 
--- bits of a part that are 0 together are those of zeros
-pub zeros-bits : (numbers : List ℕ) (from bits : ℕ) → from + 16 ≤ length numbers →
-    bits ≡ fold (λ most number. bit_or most number) 0 (mid_of from (from + 16 - from) numbers) → eqb bits 0 ≡ true → Zeros numbers from 16
-zeros-bits numbers from bits inside e none i l =
-    let size : length (mid_of from (from + 16 - from) numbers) ≡ 16 = mid_len from (from + 16) numbers inside ∙ (omega arith) in
-    let most = fold-or-most (λ number. number) 0 (mid_of from (from + 16 - from) numbers) i (omega arith) in
+-- numbers whose bits together are 0 are zeros
+pub zeros-bits : (numbers : List ℕ) (bits : ℕ) → bits ≡ fold (λ most number. bit_or most number) 0 numbers → eqb bits 0 ≡ true → Zeros numbers
+zeros-bits numbers bits e none i l =
+    let most = fold-or-most (λ number. number) 0 numbers i l in
     let zero : bits ≡ 0 = eqb-true bits 0 none in
-    sym (at_mid from (from + 16 - from) numbers i (omega arith)) ∙ (omega (arith, rw (← e) at most))
+    omega (arith, rw (← e) at most)
 
 module _ (kw : List ℕ) (ranks : ℕ) where
-  pub used-less : (used : ℕ) → Used kw ranks used → 16 ≤ used → Zeros kw (used - 16) 16 → Used kw ranks (used - 16)
-  used-less used u long zeros =
+  pub used-less : (used : ℕ) → Used kw ranks used → ranks ≤ length kw → 16 ≤ used → Zeros (mid_of (used - 16) (used - (used - 16)) kw) → Used kw ranks (used - 16)
+  used-less used u few long zeros =
+      let size : length (mid_of (used - 16) (used - (used - 16)) kw) ≡ used - (used - 16) = mid_len (used - 16) used kw (omega (arith, u.within)) in
       record {
         within = omega (arith, u.within);
         idle = λ r l m.
             elim (dec_lt r used) [
-              | yes here ↦ ap (at kw) (omega arith) ∙ zeros (r - (used - 16)) (omega arith)
+              | yes here ↦
+                  ap (at kw) (omega arith) ∙ sym (at_mid (used - 16) (used - (used - 16)) kw (r - (used - 16)) (omega arith)) ∙ zeros (r - (used - 16)) (omega arith)
               | no past ↦ u.idle r (omega arith) m
             ];
       }
 
--- what `sixteen_zeros` is decided by
+-- what `all_zeros` is decided by
 pub ruleset zeros = (zeros-bits)

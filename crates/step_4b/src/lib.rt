@@ -50,17 +50,12 @@ fn keep_rank(kw: u64, intertie: usize, allowance: u64, cover: &mut [u64], kept: 
     use_allowance(rest, intertie, allowance, kept)
 }
 
-// Whether sixteen numbers, from one of them on, are all 0.
+// Whether numbers are all 0.
 #[tactic(auto, using(crate::proofs::UsedLaws::zeros))]
-fn sixteen_zeros(numbers: &[u64], from: usize) -> bool
-    requires { from + 16 ≤ length numbers.now }
-    ensures { result ≡ true → Zeros numbers.now from 16 }
+fn all_zeros(numbers: &[u64]) -> bool
+    ensures { result ≡ true → Zeros numbers.now }
 {
-    let end = from + 16;
-    numbers[from..end]
-        .iter()
-        .fold(0, |bits, number| bits | *number)
-        == 0
+    numbers.iter().fold(0, |bits, number| bits | *number) == 0
 }
 
 // How many of the first ranks are to be gone through: past them, in sixteens, none has kW. (Sixteens, since their bits are put
@@ -72,7 +67,7 @@ fn used_ranks(kw: &[u64], ranks: usize) -> usize
     ensures { Used kw.now ranks result }
 {
     let mut used = ranks;
-    while 16 <= used && sixteen_zeros(kw, used - 16) {
+    while 16 <= used && all_zeros(&kw[used - 16..used]) {
         used -= 16;
     }
     used
