@@ -1,14 +1,16 @@
 -- The grants buffer while it is written, word by word.
-use Prim.Native.Nat.{ℕ, ◌+◌, ◌*◌, ◌/◌, ◌%◌, ◌≤◌, ◌<◌}
+use Prim.Native.Nat.{ℕ, zero, suc, ◌+◌, ◌*◌, ◌/◌, ◌%◌, ◌≤◌, ◌<◌}
 use mathlib.Core.Path.{◌≡◌, refl, sym, ap, ◌∙◌}
 use mathlib.Core.List.{List, []}
 use native.Mathlib.Nat.{add-zero, zero-mul, suc-mul, mul-add-div_right, mul-add-mod_self_right, div-eq_of_lt, mod-eq_of_lt}
 use native.Mathlib.Numerals.{add-one}
 use native.Mathlib.Omega.{arith}
-use lib.ListN.{length, take, get_or, set, length-set}
-use Rattle.std.proofs.lemmas.List.{get_or-take, length-take}
+use lib.ListN.{length, take, drop, get_or, set, length-set}
+use Rattle.std.proofs.lemmas.List.{get_or-take, length-drop, length-take, length-take-le}
 use Rattle.std.specs.Simd.{first_chunks}
+use Rattle.base.specs.Sums.{sum_to}
 use Rattle.base.specs.Words.{at, fill}
+use Rattle.base.proofs.SumLaws.{sum_to-same}
 use Rattle.base.proofs.VectorLaws.{at-row, length-rows}
 use Rattle.base.proofs.WordLaws.{fill-zero, fill-turn}
 use Rattle.state.specs.Layout.{interties, holders}
@@ -39,6 +41,22 @@ row_word table {rows = rows} H I h i size e few p q =
       get_or-take I _ i 0 inside ∙ ap (λ r. at r i) (get_or-take H rows h [] low) ∙ ap (λ r. at (get_or r h []) i) e
           ∙ at-row 48 (length table / 48) h i table (omega (arith, length-take H rows)) (omega arith),
     )
+
+-- a row of a table has 48 words
+length-row : (k h : ℕ) (l : List ℕ) → h < k → 48 * k ≤ length l → length (get_or (first_chunks 48 k l) h []) ≡ 48
+length-row zero h l few inside = absurd (omega arith)
+length-row (suc k) zero l few inside = length-take-le 48 l (omega arith)
+length-row (suc k) (suc h) l few inside = length-row k h (drop 48 l) (omega arith) (omega (arith, length-drop 48 l))
+
+-- the first n words of a row of a table, summed
+pub row-sum : (table : List ℕ) {rows : List (List ℕ)} (n h : ℕ) → length table ≡ 1536 → rows ≡ first_chunks 48 (length table / 48) table → n ≤ 48 → h < 32 →
+    sum_to (length (take n (get_or rows h []))) (at (take n (get_or rows h []))) ≡ sum_to n (λ i. at_pair table h i)
+row-sum table {rows = rows} n h size e few low =
+    let row : List ℕ = get_or rows h [] in
+    let whole : length row ≡ 48 = ap (λ r. length (get_or r h [])) e ∙ length-row (length table / 48) h table (omega arith) (omega arith) in
+    ap (λ k. sum_to k (at (take n row))) (length-take-le n row (omega arith))
+    ∙ sum_to-same n (at (take n row)) (λ i. at_pair table h i)
+    (λ i l. get_or-take n row i 0 l ∙ ap (λ r. at (get_or r h []) i) e ∙ at-row 48 (length table / 48) h i table (omega arith) (omega arith))
 
 -- the first n words of the buffer are this closing's
 pub record Writing (s first grants : List ℕ) (n : ℕ) : Type 0 where

@@ -10,7 +10,6 @@ use super::rows;
 use base::limits::{MOST_HOLDERS, MOST_INTERTIES};
 use base::vectors;
 use state::layout;
-use state::layout::ROW_WORDS;
 
 // A state that is closed, and the table of the closing's grants: a row of 48 numbers for each holder.
 #[derive(Clone, Copy)]
@@ -57,9 +56,9 @@ impl Closing<'_> {
     {
         let interties = state::intertie_count(self.state) as usize;
         rows::read_rows(self.state, layout::UNPLACED, row);
+        let (rows, _) = self.table.as_chunks::<MOST_INTERTIES>();
         for (holder, unplaced) in row.iter_mut().enumerate() {
-            let from = ROW_WORDS * holder;
-            let granted = vectors::sum_of(&self.table[from..from + interties]);
+            let granted = vectors::sum_of(&rows[holder][..interties]);
             *unplaced = unplaced.saturating_sub(granted);
         }
     }
