@@ -36,7 +36,8 @@ pub fn is_stage(state: &[u32], stage: Stage) -> bool
     state::stage(state) == stage.number()
 }
 
-// Whether a state is of one of the stages.
+// Whether a state is of one of the stages. (A request, a move and a closing, which more than one stage allows, test this after
+// `check_state`: two tests, as their definitions have them.)
 pub fn is_in(state: &[u32], stages: &[Stage]) -> bool
     ensures { result ≡ is_in (stage_of state.now) stages.now }
 {

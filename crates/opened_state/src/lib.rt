@@ -160,7 +160,8 @@ impl Source<'_> {
         );
     }
 
-    // No sellers and no takings.
+    // No sellers and no takings. (Zeros are stored: state_rows' `Cleared` is its own, and a function that clears one row would be a public
+    // one more, for these three rows.)
     fn clear_rows(self, state: &mut [u32; STATE_WORDS])
         ensures { state.new ≡ rows_cleared self.entry.read.holders state.old }
     {

@@ -40,9 +40,11 @@ pub fn open_with_quantities(
     let headed = Headed::of(sheet)?;
     let mut tables = Tables::empty();
     headed.read(&mut tables)?;
+    // Tested and lent as a slice: `write_state`, which takes any state, makes an array of it itself.
     if state.len() < STATE_WORDS {
         return Err(Refusal::Room);
     }
+    // I and H are read again: handed on they would stand in the answer of `Headed::read`, to save two loads (docs/DECISIONS.md).
     let read = Read {
         tables: &tables,
         interties: words::intertie_count(sheet) as usize,

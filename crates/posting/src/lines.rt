@@ -13,7 +13,8 @@ use state::layout;
 use state::layout::ROW_WORDS;
 
 // A word of the state as a number. (Here and in `sum_on` the array is read and `state` not asked, which tests the place of each
-// word: a posting takes 2 µs longer by that.)
+// word, and rows are usize, since a place counted in 32 bits and cast costs an address a word: by both a posting takes 2.9 µs above its
+// opening, where it took 4.6.)
 fn word(state: &[u32; STATE_WORDS], row: usize, column: usize) -> u64
     requires { (row < whole_rows) × (column < row_words) }
     ensures { (result ≡ row_word state.now row column) × (result < 2 ^ 32) }
@@ -21,7 +22,7 @@ fn word(state: &[u32; STATE_WORDS], row: usize, column: usize) -> u64
     u64::from(state[ROW_WORDS * row + column])
 }
 
-// A field of the pairs on an intertie, summed over the holders. (Rows as usize: with places counted in 32 bits the sum is slower.)
+// A field of the pairs on an intertie, summed over the holders. (Rows as usize, as in `word`.)
 fn sum_on(state: &[u32; STATE_WORDS], field: usize, holders: usize, intertie: usize) -> u64
     requires { (field ≤ last_row) × (holders ≤ most_holders) × (intertie < most_interties) }
     ensures { result ≡ field_on state.now field holders intertie }
@@ -33,7 +34,8 @@ fn sum_on(state: &[u32; STATE_WORDS], field: usize, holders: usize, intertie: us
     sum
 }
 
-// Fills the first columns of a row by what a figure is in each.
+// Fills the first columns of a row by what a figure is in each. (The third such function, beside the `fill_by` of steps_2_to_4 and of
+// opening: this one fills a part of the array of lines, at its place there.)
 fn fill_row<F: Fn(usize) -> u64>(lines: &mut [u64; NUMBERS], row: usize, count: usize, figure: F)
     requires { (row < posting_rows) × (count ≤ row_words) × ((c : ℕ) → c < count → F.pre figure c) }
     ensures { (f : ℕ → ℕ) → ((c r : ℕ) → c < count → F.post figure c r → r ≡ f c) → lines.new ≡ fill_row row count f lines.old }

@@ -114,7 +114,7 @@ fn fits_row(words: usize, row: usize, count: usize, values: usize) -> bool
 
 // Writes values over the first columns of a row, of a value over 32 bits its low ones. Does nothing
 // where the state, the row, the count or the values don't fit. (Nothing, and no error, here and below: what calls these has tested
-// the sizes. The rows are usize, since they are counted from places in tables.)
+// the sizes. A row is a usize: a narrower type would ask more of callers.)
 pub fn store_row(state: &mut [u32], row: usize, count: usize, values: &[u64])
     ensures { state.new ≡ stored_row row count values.now state.old }
 {

@@ -110,7 +110,8 @@ impl Holders<'_> {
         newly
     }
 
-    // Repeats until a round excludes none. (A loop: what ends it is what a round answers, and no list is walked.)
+    // Repeats until a round excludes none. (A loop: what ends it is what a round answers, and no list is walked. As a `while` over that
+    // answer it would have no body.)
     fn settle(self, marks: &mut [u8])
         requires { marks.old ≡ all_eligible self.held.now }
         ensures { marks.new ≡ settled self.entry.total self.entry.held.now self.entry.loads.now }

@@ -17,7 +17,8 @@ use state::layout::ROW_WORDS;
 use std::marker::Model;
 
 // Writes each holder's weight. Does nothing where the state is under 16,000 words or has over 32 holders. (And says
-// no error: a closing has tested the state.)
+// no error: a closing has tested the state. Lent, since the clause says of any array what stays in it: past the holders, and
+// all where nothing is done. An array for an answer could say that of zeros alone.)
 pub fn weigh(state: &[u32], weights: &mut [u64; MOST_HOLDERS])
     ensures { weights.new ≡ weighed state.now weights.old }
 {
@@ -85,7 +86,8 @@ impl Holders<'_> {
         state::word(self.words, layout::SELLERS, holder)
     }
 
-    // Writes each holder's weight.
+    // Writes each holder's weight. (By place: a holder is a number of 32 bits, as the count and the state's readers have it; the place
+    // that `enumerate` gives would be cast back to it, and the count to a place.)
     fn write_weights(&self, weights: &mut [u64; MOST_HOLDERS])
         ensures { let s = self.now in weights.new ≡ fill (holders s) (weight_of s) weights.old }
     {
