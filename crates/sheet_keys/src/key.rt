@@ -30,7 +30,7 @@ pub const RANK_MASK: u32 = 255;
 
 pub const YEARS_MASK: u32 = 255;
 
-// A key's fields.
+// A key's fields. (The kind is a number: a key may hold a kind without a name.)
 #[derive(Clone, Copy, Debug, PartialEq, Eq)]
 pub struct Key {
     pub kind: u32,
