@@ -45,7 +45,7 @@ fn put_sheet(interties: u32, holders: u32, keys: &[u32], kws: &[u32], output: &m
 
 // Writes a sheet of I interties and H holders into the first bytes of the output, and gives how many they are. Where there are
 // over 1,024 keys, not as many quantities as keys, or too short an output, nothing is written. Keys and quantities are two lists,
-// as they stand in the bytes.
+// as they stand in the bytes. (Lent, with a count: carry's output is C's, and sheet_table makes a list of both.)
 #[tactic(auto, using(crate::proofs::BytesLaws::unwritten))]
 pub fn write_sheet(
     interties: u32,
