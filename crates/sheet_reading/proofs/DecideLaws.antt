@@ -5,7 +5,7 @@ use mathlib.Core.Bool.{Bool, true, false, ◌&&◌, not}
 use mathlib.Core.Logic.{⊎_elim}
 use mathlib.Core.List.{List, []}
 use native.Mathlib.Omega.{arith}
-use native.Mathlib.Nat.{le_trans, mul-le-mul_right, add_assoc, suc-ne-zero}
+use native.Mathlib.Nat.{le_trans, mul-le-mul_right, add_assoc}
 use lib.Dec.{leb, ltb, eqb}
 use lib.ListN.{length, take, drop, get_or, get_or-eq_default}
 use lib.Seq.{length-take-le}
@@ -20,11 +20,11 @@ use Rattle.base.proofs.SumLaws.{sum_to-bound, sum_to-same, all_to-same}
 use Rattle.sheet_records.specs.Sheet.{interties, holders, count, kw_at, sum_over, how_many, is_limit, is_load_share, is_new_use, limit, outside, existing, existing_on}
 use Rattle.sheet_records.specs.Refusal.{within, bad_length, bad_sizes, records_stand, one_limit_each, one_load_share_each, no_rank_twice, rules_hold, limits_hold, sheet_refusal}
 use Rattle.sheet_reading.specs.Headed.{headed}
+use Rattle.sheet_reading.proofs.HeadLaws.{sizes-pass}
 use Rattle.sheet_reading.specs.Tables.{slots, slot_of, limit_slot, outside_slot, load_share_slot, existing_slot, new_use_slot, table, count_table, kw_table, ReadSheet}
 use Rattle.sheet_reading.specs.Workers.Adding.{Filled}
 use Rattle.sheet_reading.specs.declared.tables.Tables.{Tables}
 use Rattle.base.specs.declared.refusals.Refusal.TheVariants.{SheetLength, Sizes}
-use Rattle.base.specs.Refused.{number_in}
 use Rattle.base.specs.Choice.{pick}
 use Rattle.std.proofs.Common.{Ok, Err}
 use Rattle.sheet_reading.specs.Workers.Deciding.{table_rules_hold, table_existing_on, table_limit_holds, Modest}
@@ -166,16 +166,6 @@ module _ (s : List ℕ) where
     pub sizes-0 : b ≡ true → Ok s ≡ headed s
     unfolding headed
     sizes-0 t = simp (← e, f, ← sizes-bad, t)
-
-  -- what they say
-  pub sizes-pass : headed s ≡ Ok s → (bad_length s ≡ false) × (bad_sizes s ≡ false)
-  unfolding headed
-  sizes-pass = go (bad_length s) (bad_sizes s)
-    where
-      go : (a b : Bool) → pick a (Err SheetLength) (pick b (Err Sizes) (Ok s)) ≡ Ok s → (a ≡ false) × (b ≡ false)
-      go true b e = absurd (suc-ne-zero 0 (ap number_in e))
-      go false true e = absurd (suc-ne-zero 1 (ap number_in e))
-      go false false e = (refl, refl)
 
 -- refusals 3 and 4 from what the code has read: the sizes, the tables, and the tests on them
 module _ (s : List ℕ) (passed : headed s ≡ Ok s) (H I : ℕ) (eh : H ≡ pick (ltb (length s) 12) 0 (holders s)) (ei : I ≡ pick (ltb (length s) 12) 0 (interties s)) where

@@ -1,5 +1,6 @@
 pub mod SheetLaws
 pub mod TableLaws
+mod HeadLaws
 mod RuleLaws
 mod SlotLaws
 mod TallyLaws

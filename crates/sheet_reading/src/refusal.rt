@@ -21,18 +21,19 @@ use std::marker::Model;
 // A sheet that refusals 1 and 2 let pass: its length is that of its records, and I and H are in range. A clause sees its bytes.
 #[derive(Drop)]
 pub struct Headed<'a> {
-    sheet: &'a [u8],
+    pub(crate) sheet: &'a [u8],
 }
 
 impl<'a> Model for Headed<'a> {
-    ghost use Rattle.std.specs.Prelude.{◌≡◌, ℕ, List, Ok};
+    ghost use Rattle.std.specs.Prelude.{◌≡◌, ◌<◌, ◌^◌, ℕ, List, Ok};
+    ghost use Rattle.base.specs.Words.{at};
     ghost use Rattle.sheet_reading.specs.Headed.{headed};
 
     ghost Value = { List ℕ };
 
     ghost view = { λ h. h.sheet.now };
 
-    ghost invariant = { λ h. headed h.sheet.now ≡ Ok h.sheet.now };
+    ghost invariant = { λ h. (headed h.sheet.now ≡ Ok h.sheet.now) × ((i : ℕ) → at h.sheet.now i < 2 ^ 8) };
 }
 
 impl<'a> Headed<'a> {
@@ -125,14 +126,14 @@ impl Filled<'_> {
 
 // Refusals 3 and 4 of a sheet that 1 and 2 let pass, and its records in cleared tables.
 fn read_sized(found: Found, counts: &mut [u16; SLOTS], kw: &mut [u64; SLOTS]) -> Result<(), Refusal>
-    requires { (headed found.sheet.now ≡ Ok found.sheet.now) × (counts.old ≡ replicate slots 0) × (kw.old ≡ replicate slots 0) }
+    requires { (counts.old ≡ replicate slots 0) × (kw.old ≡ replicate slots 0) }
     ensures { let sheet = found.entry.sheet.now in
         (number_in result ≡ sheet_refusal sheet) × (counts.new ≡ count_table sheet) × (kw.new ≡ kw_table sheet) }
 {
     let sheet = found.sheet;
     let interties = words::intertie_count(sheet) as usize;
     let holders = words::holder_count(sheet) as usize;
-    let stand = rules::records_stand(sheet);
+    let stand = rules::records_stand(found);
     found.add_records(counts, kw);
     let filled = Filled {
         counts,
@@ -160,7 +161,7 @@ impl Headed<'_> {
     {
         *tables = Tables::empty();
         let mut room = [0; MOST_RECORDS];
-        let found = tables::find_slots(self.sheet, &mut room);
+        let found = tables::find_slots(self, &mut room);
         found.place_records(&mut tables.interties);
         read_sized(found, &mut tables.counts, &mut tables.kw)
     }
@@ -173,7 +174,7 @@ pub fn sheet_refusal(sheet: &[u8]) -> Result<(), Refusal>
 {
     let headed = Headed::of(sheet)?;
     let mut room = [0; MOST_RECORDS];
-    let found = tables::find_slots(headed.sheet, &mut room);
+    let found = tables::find_slots(&headed, &mut room);
     let mut counts = [0; SLOTS];
     let mut kw = [0; SLOTS];
     read_sized(found, &mut counts, &mut kw)

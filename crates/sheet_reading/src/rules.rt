@@ -1,10 +1,11 @@
 // The rule of the sheet for a single record, by its kind, and for all of them. What a kind says is a match that gives constants,
 // so that a record takes no branch.
-ghost use Rattle.std.specs.Prelude.{◌≡◌, false, eqb};
+ghost use Rattle.std.specs.Prelude.{◌≡◌, eqb};
 ghost use Rattle.base.specs.Choice.{pick};
-ghost use Rattle.sheet_records.specs.Refusal.{bad_length, record_stands, records_stand};
+ghost use Rattle.sheet_records.specs.Refusal.{record_stands, records_stand};
 ghost use Rattle.sheet_reading.specs.Workers.Kinds.{rule_of};
 
+use crate::tables::Found;
 use base::kinds::Kind;
 use base::limits::MOST_YEARS;
 use base::limits::words::{MOST_KW, MOST_LOAD_SHARE};
@@ -101,16 +102,14 @@ fn record_stands(entry: Record, interties: u32, holders: u32) -> bool
         & (rule.least..=rule.most).contains(&entry.kw)
 }
 
-// Whether each record keeps its rule. (A loop with &: `all` would branch on each record.)
-pub(crate) fn records_stand(sheet: &[u8]) -> bool
-    requires { bad_length sheet.now ≡ false }
-    ensures { result ≡ records_stand sheet.now }
+// Whether each record keeps its rule. (With &: `all` would branch on each record.)
+pub(crate) fn records_stand(found: Found) -> bool
+    ensures { result ≡ records_stand found.entry.sheet.now }
 {
+    let sheet = found.sheet;
     let interties = words::intertie_count(sheet);
     let holders = words::holder_count(sheet);
-    let mut stand = true;
-    for record in reader::records(sheet) {
-        stand = stand & record_stands(record, interties, holders);
-    }
-    stand
+    reader::records(sheet).fold(true, |stand, record| {
+        stand & record_stands(record, interties, holders)
+    })
 }

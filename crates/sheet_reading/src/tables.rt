@@ -1,13 +1,14 @@
 // The tables that the records fill. A record's slot goes by its kind, holder, intertie and rank, and is found for all of them
 // before the first is added. Records of no kind, and those of kinds 4 to 6 with a holder from 32 up, share the last slot.
-ghost use Rattle.std.specs.Prelude.{◌≡◌, false, ℕ, ◌<◌, ◌^◌, length, replicate};
+ghost use Rattle.std.specs.Prelude.{◌≡◌, ℕ, ◌<◌, ◌^◌, length, replicate, Ok};
 ghost use Rattle.base.specs.Choice.{pick};
 ghost use Rattle.base.specs.Words.{at};
 ghost use Rattle.sheet_keys.specs.Key.{key_holders, key_interties, key_ranks};
-ghost use Rattle.sheet_records.specs.Refusal.{bad_length};
+ghost use Rattle.sheet_reading.specs.Headed.{headed};
 ghost use Rattle.sheet_reading.specs.Tables.{slot, slot_of, slots, count_table, kw_table, intertie_table};
 ghost use Rattle.sheet_reading.specs.Workers.Adding.{SlotsOf};
 
+use crate::refusal::Headed;
 use base::kinds::Kind;
 use base::limits::MOST_RECORDS;
 use base::limits::words::MOST_HOLDERS;
@@ -15,7 +16,9 @@ use sheet_keys::key;
 use sheet_keys::key::Key;
 use sheet_records::reader;
 
-// A holder's row has a slot for each intertie that a key can name, or for each rank.
+// A holder's row has a slot for each intertie that a key can name, or for each rank. (Here and in the crates above a row is cut by
+// its place, as `EXISTING + HOLDER_INTERTIES * holder`, where one is read or something is written for each holder; where all are
+// only read, `as_chunks` gives the rows.)
 pub const HOLDER_INTERTIES: usize = key::INTERTIES;
 
 pub const HOLDER_RANKS: usize = key::RANKS;
@@ -76,8 +79,9 @@ fn either(test: bool, one: u32, other: u32) -> u32
     other
 }
 
-// The slot of a record by its kind, holder, intertie and rank. (A comparison for each kind: a match over `Kind` was tried, and the
-// slots of 1,024 records take 2.5 µs by it and 1.7 so, since each record branches on its kind.)
+// The slot of a record by its kind, holder, intertie and rank. (A comparison for each kind: by a match over `Kind` each record
+// branches on its kind, and the slots of 1,024 records take 0.8 µs longer, of a refusal's 7.6. Constants by kind, as rules.rt has,
+// were tried in plain Rust: 3.7 µs, and so 1.2. Casts: a key's fields have 32 bits, and places in tables are usize.)
 fn slot(key: Key) -> u32
     requires { (key.holder < key_holders) × (key.intertie < key_interties) × (key.rank < key_ranks) }
     ensures { result ≡ slot key.kind key.holder key.intertie key.rank }
@@ -118,24 +122,25 @@ fn slot_of(key: u32) -> u32
     slot(Key::from(key))
 }
 
-// Finds the slot of each record and writes it into the room. (Lent: as an answer these 4 KB are copied; tried, and a refusal takes
-// 1 per cent longer. By place, here and below: the laws of a record and its place serve all three walks.)
-pub(crate) fn find_slots<'a>(sheet: &'a [u8], room: &'a mut [u32; MOST_RECORDS]) -> Found<'a>
-    requires { bad_length sheet.now ≡ false }
-    ensures { result.sheet.now ≡ sheet.now }
+// Finds the slot of each record and writes it into the room. (The room is the caller's, since memory is fixed and `Found` only
+// looks at it: in an answer its 4 KB would be moved or copied. By place, here and below: the laws of a record and its place serve
+// all three walks.)
+pub(crate) fn find_slots<'a>(headed: &'a Headed<'a>, room: &'a mut [u32; MOST_RECORDS]) -> Found<'a>
+    ensures { result.sheet.now ≡ headed.now }
 {
+    let sheet = headed.sheet;
     for (place, record) in reader::records(sheet).enumerate() {
         room[place] = slot_of(record.key);
     }
     Found { sheet, slots: room }
 }
 
-// A sheet that refusal 1 lets pass, with the slots of its records.
+// A sheet that refusals 1 and 2 let pass, with the slots of its records.
 #[derive(Clone, Copy)]
 pub(crate) struct Found<'a> {
     pub sheet: &'a [u8],
     slots: &'a [u32; MOST_RECORDS],
-    ghost whole: { bad_length sheet.now ≡ false },
+    ghost passed: { headed sheet.now ≡ Ok sheet.now },
     ghost bytes: { (i : ℕ) → at sheet.now i < 2 ^ 8 },
     ghost known: { SlotsOf sheet.now slots.now },
 }

@@ -1,23 +1,17 @@
 -- `refusal::read_sized` meets its contract: the tests on the tables decide refusals 3 and 4.
 use Rattle.base.proofs.Prelude.{rules}
-use Rattle.sheet_reading.proofs.DecideLaws.{sizes-pass, few-sizes, modest-table, refused-3, refused-4, stands}
+use Rattle.sheet_reading.proofs.DecideLaws.{few-sizes, modest-table, refused-3, refused-4, stands}
 use Rattle.sheet_reading.proofs.refusal.read_sized.Goals as goal
 
-pub records_stand-stand-requires : goal.records_stand-stand-requires
-records_stand-stand-requires c = (sizes-pass _ c.requires.0).0
-
-pub add_records-requires : goal.add_records-requires
-add_records-requires c = (c.requires.1, c.requires.2)
-
 pub invariant_of-filled-clause-few_holders : goal.invariant_of-filled-clause-few_holders
-invariant_of-filled-clause-few_holders c = (few-sizes _ c.requires.0 _ _ c.holder_count-holders.ensures c.intertie_count-interties.ensures).0
+invariant_of-filled-clause-few_holders c = (few-sizes _ c.args.found.passed _ _ c.holder_count-holders.ensures c.intertie_count-interties.ensures).0
 
 pub invariant_of-filled-clause-few_interties : goal.invariant_of-filled-clause-few_interties
-invariant_of-filled-clause-few_interties c = (few-sizes _ c.requires.0 _ _ c.holder_count-holders.ensures c.intertie_count-interties.ensures).1
+invariant_of-filled-clause-few_interties c = (few-sizes _ c.args.found.passed _ _ c.holder_count-holders.ensures c.intertie_count-interties.ensures).1
 
 pub invariant_of-filled-clause-modest : goal.invariant_of-filled-clause-modest
 invariant_of-filled-clause-modest c =
-    modest-table _ c.requires.0 _ _ c.holder_count-holders.ensures c.intertie_count-interties.ensures c.args.found.bytes _ c.add_records.ensures.1
+    modest-table _ c.args.found.passed _ _ c.holder_count-holders.ensures c.intertie_count-interties.ensures c.args.found.bytes _ c.add_records.ensures.1
 
 pub returns-then-not-rules : goal.returns-then-not-rules
 returns-then-not-rules c = (search (rules, refused-3), c.add_records.ensures.0, c.add_records.ensures.1)

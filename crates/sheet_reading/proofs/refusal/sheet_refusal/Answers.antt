@@ -2,20 +2,16 @@
 use Rattle.base.proofs.Prelude.{ap, sym, ◌∙◌, refl}
 use Rattle.base.proofs.RefusedLaws.{handed-on}
 use Rattle.sheet_records.specs.Refusal.{sheet_refusal}
-use Rattle.sheet_reading.proofs.DecideLaws.{sizes-pass}
 use Rattle.sheet_reading.proofs.SheetLaws.{head-kept, head-refused}
 use Rattle.sheet_reading.proofs.refusal.sheet_refusal.Goals as goal
 
 pub returns-in_err-headed : goal.returns-in_err-headed
 returns-in_err-headed c = handed-on _ _ c.from_residual.ensures.1 ∙ head-refused _ _ (sym c.of.ensures ∙ c.in_err-headed.was)
 
-pub find_slots-found-requires : goal.find_slots-found-requires
-find_slots-found-requires c = (sizes-pass _ c.headed.invariant).0
-
 pub read_sized-requires : goal.read_sized-requires
-read_sized-requires c = (rw c.find_slots-found.ensures c.headed.invariant, refl, refl)
+read_sized-requires c = (refl, refl)
 
 pub returns : goal.returns
 returns c =
     (rw c.find_slots-found.ensures at c.read_sized.ensures).0
-    ∙ ap sheet_refusal (c.headed.view_is ∙ head-kept _ _ (sym c.of.ensures ∙ c.in_ok-headed.was))
+    ∙ ap sheet_refusal (head-kept _ _ (sym c.of.ensures ∙ c.in_ok-headed.was))

@@ -1,26 +1,19 @@
-use Rattle.base.proofs.Prelude.{ap, ◌∙◌, all_to}
-use Rattle.base.proofs.SumLaws.{all_to-zero}
-use Rattle.base.proofs.Prelude.{sym}
-use Rattle.sheet_records.specs.Refusal.{records_stand}
+-- `rules::records_stand` meets its contract: the tests of the records in turn.
+use Rattle.base.proofs.Prelude.{rules}
+use Rattle.base.proofs.Rules.{tests}
+use Rattle.std.proofs.Common.{◌∙◌, ◌&&◌}
+use Rattle.std.proofs.lemmas.Iterator.Consumers.{fold_from_yields_List, YieldsList-from_first}
+use Rattle.sheet_records.specs.Refusal.{record_stands}
+use Rattle.sheet_records.specs.declared.reader.Record.{Record}
 use Rattle.sheet_records.proofs.RefusalLaws.{long-enough}
-use Rattle.sheet_records.proofs.ReadingLaws.{record-read, all-read, one-more}
-use Rattle.sheet_reading.proofs.PassLaws.{stands_at, tested-more}
+use Rattle.sheet_reading.proofs.HeadLaws.{passes}
+use Rattle.sheet_reading.proofs.PassLaws.{tested-all}
 use Rattle.sheet_reading.proofs.rules.records_stand.Goals as goal
 
-pub loop-record-init : goal.loop-record-init
-loop-record-init c = sym (all_to-zero (stands_at c.args.sheet.now))
-
-pub loop-record-preserved : goal.loop-record-preserved
-loop-record-preserved c =
-    let loop = c.loop-record in
-    let read = record-read c.args.sheet.now c.requires _ loop.yielded _ (c.into_iter-record-iterator.ensures.into_iter_gives ∙ c.records-record-items.ensures) loop.yielded_by _ _ c.in-Some.ensures.steps in
-    tested-more _ _ _ _ read (one-more _ _) _ _ _ _ loop.invariant
-    (long-enough _ _ _ c.requires c.intertie_count-interties.ensures) (long-enough _ _ _ c.requires c.holder_count-holders.ensures) c.record_stands-stand.ensures
-
 pub returns : goal.returns
-unfolding records_stand
 returns c =
-    let loop = c.loop-record in
-    loop.invariant
-    ∙ ap (λ n. all_to n (stands_at c.args.sheet.now))
-    (all-read c.args.sheet.now c.requires _ loop.yielded _ (c.into_iter-record-iterator.ensures.into_iter_gives ∙ c.records-record-items.ensures) loop.yielded_by c.in-None.ensures.steps.0)
+    let whole = passes _ c.args.found.passed in
+    fold_from_yields_List _ (λ stand (x : Record). stand && record_stands c.intertie_count-interties.result c.holder_count-holders.result x.key x.kw) _ _ c.fold.ensures.ran
+    (YieldsList-from_first (λ x. x) (λ l. l) _ c.records.ensures)
+    (λ a x b q k. search (rules, tests))
+    ∙ tested-all _ whole _ _ (long-enough _ _ _ whole c.intertie_count-interties.ensures) (long-enough _ _ _ whole c.holder_count-holders.ensures)

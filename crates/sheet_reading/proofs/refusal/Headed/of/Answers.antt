@@ -10,7 +10,7 @@ pub returns-then-not-sizes_in_range : goal.returns-then-not-sizes_in_range
 returns-then-not-sizes_in_range c = search (rules, sizes-2)
 
 pub invariant_of-result : goal.invariant_of-result
-invariant_of-result c = sym (search (rules, sizes-0))
+invariant_of-result c = (sym (search (rules, sizes-0)), λ i. (c.type_inv.sheet i).fits)
 
 pub returns : goal.returns
 returns c = search (rules, sizes-0)
