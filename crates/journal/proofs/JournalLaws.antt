@@ -9,7 +9,7 @@ use lib.ListN.{length, take, drop, length-append, take-append-drop}
 use borrow.Author.Tests.{ltb-true}
 use borrow.Rule.Slice.PartMut.{put_mid}
 use Rattle.std.specs.Prelude.{Option, Some, None, Result, Ok, Err}
-use Rattle.std.specs.Result.{result_unwrap_or}
+use Rattle.std.specs.Result.{IsErrAnd, result_unwrap_or}
 use Rattle.std.proofs.lemmas.Slice.{take-put_mid, drop-put_mid}
 use Rattle.base.specs.CallKind.{number_of}
 use Rattle.text.specs.Written.{written}
@@ -56,6 +56,20 @@ answer-none : (room number count : ℕ) → answer_from room number count [] ≡
 unfolding answer_from
 answer-none room number count = refl
 
+-- a fault that `?` hands on
+pub handed-fault : {A E : Type 0} (r : Result A E) (e : E) → IsErrAnd r (λ x. x ≡ e) → r ≡ Err e
+handed-fault (Ok x) e same = absurd same
+handed-fault (Err x) e same = ap Err same
+
+-- an answer that is a count was one before its line had a number
+abbrev goes_on : Result ℕ Unreadable → ℕ
+goes_on (Ok n) = 1
+goes_on (Err u) = 0
+
+pub same-count : (number : ℕ) (r : Result ℕ Fault) (more : ℕ) → Ok more ≡ past_line number r (λ n. Ok n) → Ok more ≡ r
+same-count number (Ok n) more e = ap (λ (o : Result ℕ Unreadable). Ok (result_unwrap_or o 0)) e
+same-count number (Err fault) more e = absurd (omega (arith, ap goes_on e))
+
 -- the loop of `check`, where so many lines were read and others are left
 module _ (room place count : ℕ) (left : List (List ℕ)) (whole : Result ℕ Unreadable) (so_far : whole ≡ answer_from room (place + 1) count left) where
   module _ (line : List ℕ) (others : List (List ℕ)) (are : left ≡ line ∷ others) where
@@ -68,6 +82,10 @@ module _ (room place count : ℕ) (left : List (List ℕ)) (whole : Result ℕ U
         ∙ ap (answer_from room (place + 1) count) are
         ∙ answer-goes room (place + 1) count line others more e
         ∙ ap (λ n. answer_from room n more others) (sym (add-one (place + 1)))
+
+    pub check-fails : (r : Result ℕ Fault) (u : Unreadable) → r ≡ counted room count (line_of line) → Err u ≡ past_line (place + 1) r (λ n. Ok n) → Err u ≡ whole
+    check-fails (Ok n) u is e = absurd (omega (arith, ap goes_on e))
+    check-fails (Err fault) u is e = e ∙ check-stops fault is
 
   pub check-ends : left ≡ [] → Ok count ≡ whole
   check-ends none = sym (so_far ∙ ap (answer_from room (place + 1) count) none ∙ answer-none room (place + 1) count)

@@ -79,20 +79,21 @@ fn takes(kind: CallKind) -> usize
 fn call_with(kind: CallKind, n: &[u32; 4]) -> Call
     ensures { result ≡ call_with kind n.now }
 {
+    let [a, b, third, fourth] = *n;
     match kind {
         CallKind::Move => Call {
             kind,
-            a: n[0],
-            b: n[1],
-            c: n[2],
-            kw: n[3],
+            a,
+            b,
+            c: third,
+            kw: fourth,
         },
         _ => Call {
             kind,
-            a: n[0],
-            b: n[1],
-            c: n[3],
-            kw: n[2],
+            a,
+            b,
+            c: fourth,
+            kw: third,
         },
     }
 }

@@ -9,22 +9,16 @@ use crate::calls::{Call, read_line};
 use crate::faults::{Fault, Unreadable};
 use base::encoding::CALL_WORDS;
 
-// Finds the first line that can't be read, or counts the calls. (A match and no `map_err` with `?`: that was tried, and the
-// proof doesn't get hold of what its closure gave.)
+// Finds the first line that can't be read, or counts the calls.
 pub(super) fn check(text: &[u8], room: usize) -> Result<usize, Unreadable>
     ensures { result ≡ answer_from room 1 0 (lines_of text.now) }
 {
     let mut count = 0;
     for (place, line) in text::split(text, b'\n').enumerate() {
-        match count_call(line, count, room) {
-            Ok(more) => count = more,
-            Err(fault) => {
-                return Err(Unreadable {
-                    line: place + 1,
-                    fault,
-                });
-            }
-        }
+        count = count_call(line, count, room).map_err(|fault| Unreadable {
+            line: place + 1,
+            fault,
+        })?;
     }
     Ok(count)
 }

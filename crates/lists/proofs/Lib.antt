@@ -1,3 +1,4 @@
+pub mod AnswerLaws
 pub mod EncodedLaws
 pub mod RunLaws
 pub mod RunBalances

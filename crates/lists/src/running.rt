@@ -81,7 +81,6 @@ fn store_answer(answers: &mut [u64], n: usize, answer: Answer)
     ensures { answers.new ≡ with_answer answers.old n answer }
 {
     let place = ANSWER_WORDS * n;
-    answers[place] = u64::from(answer.refusal);
-    answers[place + 1] = answer.kw;
-    answers[place + 2] = answer.passes;
+    let words = [u64::from(answer.refusal), answer.kw, answer.passes];
+    answers[place..place + ANSWER_WORDS].copy_from_slice(&words);
 }

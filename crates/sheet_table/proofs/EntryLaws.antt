@@ -1,7 +1,7 @@
 -- What the first line and the line of a record say.
-use Rattle.std.specs.Result.{IsErrAnd}
+use Rattle.std.specs.Result.{IsErrAnd, result_unwrap_or}
 use Prim.Native.Nat.{ℕ, ◌<◌}
-use mathlib.Core.Path.{◌≡◌, ap, ◌∙◌}
+use mathlib.Core.Path.{◌≡◌, refl, ap, ◌∙◌}
 use mathlib.Core.List.{List, [], ◌∷◌}
 use native.Mathlib.Omega.{arith}
 use lib.ListN.{get_or, drop}
@@ -61,6 +61,27 @@ module _ (fs rest : List (List ℕ)) (name : List ℕ) (is : name ≡ get_or fs 
   pub kind-stop : (fault : Fault) → Err fault ≡ within 15 (kind_in name) → Err (flaw 1 fault) ≡ entry_in fs
   unfolding entry_in
   kind-stop fault e = ap after_kind e ∙ ap (λ t. after_kind (within 15 (kind_in t))) is
+
+-- a number whose fault is put in a column
+abbrev pub in_column : ℕ → Result ℕ Fault → Result ℕ Flaw
+in_column column (Ok n) = Ok n
+in_column column (Err fault) = Err (flaw column fault)
+
+abbrev is_number : Result ℕ Flaw → ℕ
+is_number (Ok n) = 1
+is_number (Err first) = 0
+
+pub same-number : (column n : ℕ) (r : Result ℕ Fault) → Ok n ≡ in_column column r → Ok n ≡ r
+same-number column n (Ok m) e = ap (λ (o : Result ℕ Flaw). Ok (result_unwrap_or o 0)) e
+same-number column n (Err fault) e = absurd (omega (arith, ap is_number e))
+
+abbrev flaw_or : Flaw → Result ℕ Flaw → Flaw
+flaw_or other (Ok n) = other
+flaw_or other (Err first) = first
+
+pub fault-in : (column : ℕ) (first : Flaw) (r : Result ℕ Fault) → Err first ≡ in_column column r → (fault : Fault) × (Err fault ≡ r) × (first ≡ flaw column fault)
+fault-in column first (Ok m) e = absurd (omega (arith, ap is_number e))
+fault-in column first (Err fault) e = (fault, refl, ap (flaw_or first) e)
 
 -- a fault that `?` hands on
 pub handed-fault : {A E : Type 0} (r : Result A E) (e : E) → IsErrAnd r (λ x. x ≡ e) → r ≡ Err e

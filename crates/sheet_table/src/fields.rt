@@ -13,7 +13,8 @@ use sheet_keys::key::Key;
 use sheet_records::reader::Record;
 use text::{NumberError, Pieces};
 
-// The first fault of a line, and its column.
+// The first fault of a line, and its column. (Not nested in `Unreadable`, whose fields stand side by side for its callers and in
+// the definitions.)
 #[derive(Clone, Copy, Debug, PartialEq, Eq)]
 pub(crate) struct Flaw {
     pub column: usize,
@@ -49,8 +50,8 @@ fn kind_in(field: &[u8]) -> Result<u32, NumberError>
     }
 }
 
-// Reads the fields that are left, from a column on, and no field more. (Matches, here and below: `map_err` with `?` was tried in
-// journal's `check`, and what its closure gives is lost to the proof. By place, by which the column is counted too.)
+// Reads the fields that are left, from a column on, and no field more. (By place, by which the column is counted too; a match and no
+// `map_err` with `?`: both read that place, for the number and for its column, and a match shows them side by side.)
 fn read_numbers<const N: usize>(
     fields: &mut Pieces,
     column: usize,
@@ -100,11 +101,8 @@ pub(crate) fn read_sizes(line: &[u8]) -> Result<Sizes, Flaw>
     ensures { result ≡ sizes_in (fields comma line.now) }
 {
     let mut fields = text::split(line, b',');
-    let sizes = read_numbers(&mut fields, 1, &[u32::MAX, u32::MAX])?;
-    Ok(Sizes {
-        interties: sizes[0],
-        holders: sizes[1],
-    })
+    let [interties, holders] = read_numbers(&mut fields, 1, &[u32::MAX, u32::MAX])?;
+    Ok(Sizes { interties, holders })
 }
 
 // The line of a record.
@@ -113,10 +111,11 @@ pub(crate) fn read_entry(line: &[u8]) -> Result<Record, Flaw>
 {
     let mut fields = text::split(line, b',');
     let name = fields.next().unwrap_or(&[]);
-    match check_number(kind_in(name), key::KIND_MASK) {
-        Ok(kind) => read_entry_of(kind, &mut fields),
-        Err(fault) => Err(Flaw { column: 1, fault }),
-    }
+    let kind = check_number(kind_in(name), key::KIND_MASK).map_err(|fault| Flaw {
+        column: 1,
+        fault,
+    })?;
+    read_entry_of(kind, &mut fields)
 }
 
 // The record of a kind, with the fields after it.
@@ -131,15 +130,15 @@ fn read_entry_of(kind: u32, fields: &mut Pieces) -> Result<Record, Flaw>
         key::YEARS_MASK,
         u32::MAX,
     ];
-    let values = read_numbers(fields, 2, &limits)?;
+    let [holder, intertie, rank, years, kw] = read_numbers(fields, 2, &limits)?;
     Ok(Record {
         key: pack(Key {
             kind,
-            holder: values[0],
-            intertie: values[1],
-            rank: values[2],
-            years: values[3],
+            holder,
+            intertie,
+            rank,
+            years,
         }),
-        kw: values[4],
+        kw,
     })
 }

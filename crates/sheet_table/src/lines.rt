@@ -36,15 +36,11 @@ fn in_line(line: usize, flaw: Flaw) -> Unreadable
     }
 }
 
-// Reads the first line. (A match here and in `read_line`, as in journal's `check`: what the closure of `map_err` gives is lost to
-// the proof.)
+// Reads the first line.
 pub(crate) fn read_first(line: &[u8]) -> Result<Sizes, Unreadable>
     ensures { result ≡ sizes_on (sizes_in (fields comma (bare line.now))) }
 {
-    match fields::read_sizes(bare(line)) {
-        Ok(sizes) => Ok(sizes),
-        Err(flaw) => Err(in_line(1, flaw)),
-    }
+    fields::read_sizes(bare(line)).map_err(|flaw| in_line(1, flaw))
 }
 
 // Reads the line of a number after so many records. An empty line has no record.
@@ -62,10 +58,9 @@ fn read_line(line: &[u8], number: usize, count: usize) -> Result<Option<Record>,
             fault: Fault::TooManyRecords,
         });
     }
-    match fields::read_entry(text) {
-        Ok(entry) => Ok(Some(entry)),
-        Err(flaw) => Err(in_line(number, flaw)),
-    }
+    fields::read_entry(text)
+        .map(Some)
+        .map_err(|flaw| in_line(number, flaw))
 }
 
 // Records, as `write_sheet` takes them: a list of records would have to be split again.

@@ -15,6 +15,7 @@ use base::kinds::Kind;
 use itoa::Buffer;
 use sheet_keys::key::Key;
 use sheet_records::reader;
+use sheet_records::reader::Record;
 use text::put_line;
 
 // I and H.
@@ -28,16 +29,16 @@ pub(crate) fn put_sizes(interties: u32, holders: u32, table: &mut ArrayVec<u8, T
 }
 
 // The line of a record.
-fn put_row(key: u32, kw: u32, table: &mut ArrayVec<u8, TABLE_BYTES>)
-    ensures { table.new.items ≡ appended table_bytes (row_of key kw) table.old.items }
+fn put_row(row: Record, table: &mut ArrayVec<u8, TABLE_BYTES>)
+    ensures { table.new.items ≡ appended table_bytes (row_of row.key row.kw) table.old.items }
 {
-    let key = Key::from(key);
+    let key = Key::from(row.key);
     let figures = [
         u64::from(key.holder),
         u64::from(key.intertie),
         u64::from(key.rank),
         u64::from(key.years),
-        u64::from(kw),
+        u64::from(row.kw),
     ];
     if let Ok(kind) = Kind::try_from(key.kind) {
         put_line(kinds::name(kind), b',', &figures, table);
@@ -54,6 +55,6 @@ pub(crate) fn put_rows(sheet: &[u8], table: &mut ArrayVec<u8, TABLE_BYTES>)
         table.new.items ≡ table.old.items ++ rows_of s (count s) }
 {
     for record in reader::records(sheet) {
-        put_row(record.key, record.kw, table);
+        put_row(record, table);
     }
 }

@@ -4,9 +4,10 @@ use Rattle.text.specs.Pieces.{fields}
 use Rattle.text.specs.Left.{pieces_left}
 use Rattle.text.proofs.PieceLaws.{length-fields}
 use mathlib.Core.Logic.{inl}
+use Rattle.std.specs.Prelude.{Ok}
 use Rattle.journal.specs.Calls.{line_of}
-use Rattle.journal.specs.Journals.{answer_from}
-use Rattle.journal.proofs.JournalLaws.{check-stops, check-turn, check-ends, counted-most}
+use Rattle.journal.specs.Journals.{answer_from, past_line}
+use Rattle.journal.proofs.JournalLaws.{check-fails, same-count, handed-fault, check-turn, check-ends, counted-most}
 use Rattle.journal.proofs.lines.check.Goals as goal
 
 pub loop-place-init-derived : goal.loop-place-init-derived
@@ -30,16 +31,19 @@ pub loop-place-preserved : goal.loop-place-preserved
 loop-place-preserved c =
     let t = c.loop-place.invariant in
     let step = rw c.in-Some.is at c.next.ensures.steps in
-    let more = sym c.in-Ok.is ∙ c.count_call.ensures in (
-      omega (arith, t.0, step.2, counted-most c.args.room c.loop-place.count c.in-Ok.more (line_of c.in-Some.line.now) more),
+    let marked : c.map_err.result ≡ past_line (c.in-Some.place + 1) c.count_call.result (λ n. Ok n) = search rules in
+    let more = same-count _ _ _ (sym c.in_ok-count.was ∙ marked) ∙ c.count_call.ensures in (
+      omega (arith, t.0, step.2, counted-most c.args.room c.loop-place.count c.in_ok-count.count (line_of c.in-Some.line.now) more),
       omega (arith, t.1, step.2, ap length step.0),
       rw step.2 (check-turn c.args.room _ c.loop-place.count _ _ t.2 _ _ step.0 _ more),
     )
 
-pub returns-in-Err : goal.returns-in-Err
-returns-in-Err c =
+pub returns-in_err-count : goal.returns-in_err-count
+returns-in_err-count c =
     let step = rw c.in-Some.is at c.next.ensures.steps in
-    rw step.1 (check-stops c.args.room _ c.loop-place.count _ _ c.loop-place.invariant.2 _ _ step.0 _ (sym c.in-Err.is ∙ c.count_call.ensures))
+    let marked : c.map_err.result ≡ past_line (c.in-Some.place + 1) c.count_call.result (λ n. Ok n) = search rules in
+    handed-fault _ _ c.from_residual.ensures.1
+    ∙ check-fails c.args.room _ c.loop-place.count _ _ c.loop-place.invariant.2 _ _ step.0 _ _ c.count_call.ensures (sym c.in_err-count.was ∙ rw step.1 at marked)
 
 pub returns : goal.returns
 returns c =

@@ -5,13 +5,13 @@ use Rattle.sheet_table.proofs.fields.read_entry_of.Goals as goal
 
 pub pack-requires : goal.pack-requires
 pack-requires c =
-    let w = widths _ c.in_ok-values.values (sym c.in_ok-values.was ∙ c.read_numbers.ensures) in
+    let w = widths _ c.in_ok-holder.field-0 (sym c.in_ok-holder.was ∙ c.read_numbers.ensures) in
     (c.requires, w.0, w.1, w.2, w.3)
 
 pub returns : goal.returns
-returns c = entry-read c.args.kind _ c.in_ok-values.values _ (sym c.in_ok-values.was ∙ c.read_numbers.ensures) c.pack.ensures
+returns c = entry-read c.args.kind _ c.in_ok-holder.field-0 _ (sym c.in_ok-holder.was ∙ c.read_numbers.ensures) c.pack.ensures
 
-pub returns-in_err-values : goal.returns-in_err-values
-returns-in_err-values c =
+pub returns-in_err-holder : goal.returns-in_err-holder
+returns-in_err-holder c =
     handed-fault _ _ c.from_residual.ensures.1
-    ∙ entry-stop c.args.kind _ _ (sym c.in_err-values.was ∙ c.read_numbers.ensures)
+    ∙ entry-stop c.args.kind _ _ (sym c.in_err-holder.was ∙ c.read_numbers.ensures)

@@ -7,9 +7,9 @@ use Rattle.sheet_table.proofs.fields.read_sizes.Goals as goal
 
 pub returns : goal.returns
 returns c =
-    sizes-read _ c.in_ok-sizes.sizes (sym c.in_ok-sizes.was ∙ c.read_numbers.ensures ∙ ap (numbers_in 1 (most_word ∷ most_word ∷ [])) c.split-fields.ensures)
+    sizes-read _ c.in_ok-interties.field-0 (sym c.in_ok-interties.was ∙ c.read_numbers.ensures ∙ ap (numbers_in 1 (most_word ∷ most_word ∷ [])) c.split-fields.ensures)
 
-pub returns-in_err-sizes : goal.returns-in_err-sizes
-returns-in_err-sizes c =
+pub returns-in_err-interties : goal.returns-in_err-interties
+returns-in_err-interties c =
     handed-fault _ _ c.from_residual.ensures.1
-    ∙ sizes-stop _ _ (sym c.in_err-sizes.was ∙ c.read_numbers.ensures ∙ ap (numbers_in 1 (most_word ∷ most_word ∷ [])) c.split-fields.ensures)
+    ∙ sizes-stop _ _ (sym c.in_err-interties.was ∙ c.read_numbers.ensures ∙ ap (numbers_in 1 (most_word ∷ most_word ∷ [])) c.split-fields.ensures)

@@ -11,15 +11,8 @@ returns-then-is_empty c = line-empty c.args.number c.args.count _ (search rules)
 pub returns-then-count-ge-MOST_RECORDS : goal.returns-then-count-ge-MOST_RECORDS
 returns-then-count-ge-MOST_RECORDS c = line-over c.args.number c.args.count _ (search rules) (search rules) ∙ ap (entry_of c.args.number c.args.count) c.bare-text.ensures
 
-pub returns-in-Ok : goal.returns-in-Ok
-returns-in-Ok c =
-    ap (entry_on c.args.number) (sym c.in-Ok.is)
-    ∙ line-says c.args.number c.args.count _ (search rules) (search rules) _ c.read_entry.ensures
-    ∙ ap (entry_of c.args.number c.args.count) c.bare-text.ensures
-
-pub returns-in-Err : goal.returns-in-Err
-returns-in-Err c =
-    ap Err c.in_line.ensures
-    ∙ ap (entry_on c.args.number) (sym c.in-Err.is)
+pub returns : goal.returns
+returns c =
+    search rules
     ∙ line-says c.args.number c.args.count _ (search rules) (search rules) _ c.read_entry.ensures
     ∙ ap (entry_of c.args.number c.args.count) c.bare-text.ensures
