@@ -1,4 +1,4 @@
-// What becomes of a key in the next year.
+// What becomes of a key in the next year. (Each function takes the word, as its definition does, and reads the fields that it needs.)
 ghost use Rattle.std.specs.Prelude.{◌≡◌};
 ghost use Rattle.sheet_keys.specs.Key.{holder_of};
 ghost use Rattle.carrying.specs.NextRecords.{yearless, goes_on, next_years, next_record, rank_for};

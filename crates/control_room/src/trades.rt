@@ -25,8 +25,8 @@ impl Party {
 // The word of a trade's kW.
 const KW: usize = 4;
 
-// The kW of a call where it is a granted trade with the holder as the party, else 0. (By its words: the `Call` of lists is that of
-// a call that is run.)
+// The kW of a call where it is a granted trade with the holder as the party, else 0. (By its words: lists
+// keeps its `Call` to itself, and reads one only of words whose kind is known, which the kinds of these needn't be.)
 #[tactic(auto, using(crate::proofs::TradeLaws::traded_yes, crate::proofs::TradeLaws::traded_no))]
 fn traded_in(
     call: &[u32; CALL_WORDS],

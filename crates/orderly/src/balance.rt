@@ -64,7 +64,8 @@ fn kw_of<const N: u32>(rows: &Rows, holder: u32, intertie: usize) -> Kw
 }
 
 // Adds the kW of N holders, from one of them on, to the sums of the interties. (Two at once are quicker than one after the
-// other.) The result has the bits of their pairs.
+// other.) The result has the bits of their pairs. (By place: `kw_of` goes by an intertie's number, and of the sums only the first I are
+// meant, which a walk over them would have to cut off and count.)
 fn add_kw<const N: u32>(rows: &Rows, holder: u32, sums: &mut [u32; MOST_INTERTIES]) -> u32
     requires { holder + N ≤ most_holders }
     ensures { let s = rows.now in let before = sums.old in
@@ -82,7 +83,7 @@ fn add_kw<const N: u32>(rows: &Rows, holder: u32, sums: &mut [u32; MOST_INTERTIE
 }
 
 // The kW of each intertie, two holders after two, added to sums of 0. The result has the bits of
-// their pairs.
+// their pairs. (Twos are counted: a `for` over `step_by(2)` is no shorter, and asks for a measure besides.)
 #[tactic(auto, using(crate::proofs::BalanceLaws::added_none))]
 fn add_by_two(rows: &Rows, sums: &mut [u32; MOST_INTERTIES]) -> u32
     requires { Cleared (interties rows.now) sums.old }
@@ -119,7 +120,7 @@ fn limit_met(rows: &Rows, intertie: usize, kw: u32) -> bool
     u64::from(limit) == u64::from(outside) + u64::from(kw) + u64::from(unassigned)
 }
 
-// Whether every limit is met by the sums of the pairs.
+// Whether every limit is met by the sums of the pairs. (I as a u32, as `all_of` takes H, and each number back as the place of a word.)
 fn limits_met(rows: &Rows, sums: &[u32; MOST_INTERTIES]) -> bool
     ensures { let s = rows.now in result ≡ all_to (interties s) (λ (i : ℕ). limit_met s i (at sums.now i)) }
 {
@@ -127,7 +128,7 @@ fn limits_met(rows: &Rows, sums: &[u32; MOST_INTERTIES]) -> bool
     all_of(interties, |i| limit_met(rows, i as usize, sums[i as usize]))
 }
 
-// Limits in range, and the balance on each intertie.
+// Limits in range, and the balance on each intertie. (The sums are lent on, and cleared once: each two holders are added to them.)
 pub(super) fn limits_balance(rows: &Rows) -> bool
     ensures { let s = rows.now in result ≡ (limits_in_range s && balanced s) }
 {

@@ -12,9 +12,6 @@ const MOST_TEXT_BYTES: usize = 131_072;
 // Room for it and for one byte more, by which a longer one is told from it.
 const TEXT_ROOM: usize = MOST_TEXT_BYTES + 1;
 
-// The longest name of a file that an argument can give.
-const NAME_ROOM: usize = 4_096;
-
 // Converts or prints, by the number of arguments.
 fn main(rt: HostRuntime) {
     if !input::has_argument(&rt, 1) {
@@ -31,8 +28,9 @@ fn main(rt: HostRuntime) {
     );
 }
 
-// Text on standard input becomes a sheet on standard output. (Here and below a failure is said where it is met: an enum of them would
-// be taken apart at once in `main`.)
+// Text on standard input becomes a sheet on standard output. (Here and below a failure is said where it is met, which is one
+// place for each: an enum with one `report`, as year has, would name each of them a second time, and three would carry the file's name
+// or read it again.)
 fn convert_input(stdin: &mut impl Read, stdout: &impl Print, stderr: &impl Print) {
     let mut text = [0u8; TEXT_ROOM];
     match input::read_whole(stdin, &mut text) {
@@ -61,7 +59,7 @@ fn write_out(stdout: &impl Print, stderr: &impl Print, bytes: &[u8]) {
 
 // Prints the sheet of the file that the argument names.
 fn print_argument<R: Env + Files + Print>(rt: &R, stderr: &impl Print) {
-    let mut buffer = [0u8; NAME_ROOM];
+    let mut buffer = io::buffer();
     match input::argument(rt, 1, &mut buffer) {
         Ok(name) => print_file(rt, stderr, name),
         Err(error) => fail(stderr, b"file name", error),
