@@ -50,7 +50,7 @@ fn keep_rank(kw: u64, intertie: usize, allowance: u64, cover: &mut [u64], kept: 
     use_allowance(rest, intertie, allowance, kept)
 }
 
-// Whether numbers are all 0.
+// Whether numbers are all 0. (orderly's `is_clear` asks it of words of 32 bits; here it is to be known where the answer is yes alone.)
 #[tactic(auto, using(crate::proofs::UsedLaws::zeros))]
 fn all_zeros(numbers: &[u64]) -> bool
     ensures { result ≡ true → Zeros numbers.now }
