@@ -98,7 +98,7 @@ impl Draft {
     }
 
     // Drafts the lock of a pair, if it has one. (Here and below a contract says that numbers and sizes are in range: a state is words that
-    // C lends, and no type says so of them.)
+    // C lends, and the types that say so of one, orderly's `Rows` and weights' `Holders`, are private to their crates.)
     fn add_lock(&mut self, state: &[u32], holder: u32, intertie: u32)
         requires { (holder < most_holders) × (intertie < most_interties)
             × (length self.old.keys ≤ most_records + most_interties * holder + intertie) }

@@ -1,4 +1,5 @@
-// What becomes of a key in the next year. (Each function takes the word, as its definition does, and reads the fields that it needs.)
+// What becomes of a key in the next year. (Each function takes the word, which the definitions take too, and
+// reads the fields that it needs.)
 ghost use Rattle.std.specs.Prelude.{◌≡◌};
 ghost use Rattle.sheet_keys.specs.Key.{holder_of};
 ghost use Rattle.carrying.specs.NextRecords.{yearless, goes_on, next_years, next_record, rank_for};

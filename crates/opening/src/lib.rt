@@ -40,7 +40,7 @@ pub fn open_with_quantities(
     let headed = Headed::of(sheet)?;
     let mut tables = Tables::empty();
     headed.read(&mut tables)?;
-    // Tested and lent as a slice: `write_state`, which takes any state, makes an array of it itself.
+    // A slice, and no array from here on: `write_state` takes any state, and an array would ask more of its callers.
     if state.len() < STATE_WORDS {
         return Err(Refusal::Room);
     }

@@ -120,7 +120,7 @@ fn limit_met(rows: &Rows, intertie: usize, kw: u32) -> bool
     u64::from(limit) == u64::from(outside) + u64::from(kw) + u64::from(unassigned)
 }
 
-// Whether every limit is met by the sums of the pairs. (I as a u32, as `all_of` takes H, and each number back as the place of a word.)
+// Whether every limit is met by the sums of the pairs. (Cast twice: `all_of` counts in u32, as H is one, and an intertie is a place.)
 fn limits_met(rows: &Rows, sums: &[u32; MOST_INTERTIES]) -> bool
     ensures { let s = rows.now in result ≡ all_to (interties s) (λ (i : ℕ). limit_met s i (at sums.now i)) }
 {

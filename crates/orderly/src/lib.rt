@@ -30,8 +30,8 @@ pub fn check_state(state: &[u32]) -> Result<(), Refusal>
     }
 }
 
-// Whether a test holds of each number below a count. (No branch stands between the tests, as `all` has: each is made. A loop and no
-// fold with `&`, which was tried: its law wants what the test answers of any number, and that is known below the count only.)
+// Whether a test holds of each number below a count. (Each test is made: `all` would branch between them. A loop: a fold with `&`
+// was tried, and its law wants what the test answers of any number, where that is known below the count only.)
 fn all_of<F: Fn(u32) -> bool>(count: u32, test: F) -> bool
     requires { (n : ℕ) → n < count → F.pre test n }
     ensures { (p : ℕ → Bool) → ((n : ℕ) (b : Bool) → n < count → F.post test n b → b ≡ p n) → result ≡ all_to count p }

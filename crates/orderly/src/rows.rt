@@ -111,8 +111,8 @@ pub(super) fn within(words: &[u32], most: u32) -> bool
         .fold(true, |within, word| within & (*word <= most))
 }
 
-// Whether they are all 0. (Tried as `within` with 0: a check in stage 1 took 5 per cent longer, and the bar is five per cent of a row of
-// bench/. Their bits together are quicker than a test of each.)
+// Whether they are all 0. (Tried as `within` with 0: a check in stage 1 took 5 per cent longer, which is 6 over what it took when the
+// bar was set: 5 for each row of bench/. Their bits together are quicker than a test of each.)
 pub(super) fn is_clear(words: &[u32]) -> bool
     ensures { let row = words.now in result ≡ all_to (length row) (λ (c : ℕ). leb (at row c) 0) }
 {

@@ -34,8 +34,8 @@ fn sum_on(state: &[u32; STATE_WORDS], field: usize, holders: usize, intertie: us
     sum
 }
 
-// Fills the first columns of a row by what a figure is in each. (The third such function, beside the `fill_by` of steps_2_to_4 and of
-// opening: this one fills a part of the array of lines, at its place there.)
+// Fills the first columns of a row by what a figure is in each. (As the `fill_by` of steps_2_to_4, beside which stands why each crate
+// has its own, and of opening; here the row is cut from the array of lines.)
 fn fill_row<F: Fn(usize) -> u64>(lines: &mut [u64; NUMBERS], row: usize, count: usize, figure: F)
     requires { (row < posting_rows) × (count ≤ row_words) × ((c : ℕ) → c < count → F.pre figure c) }
     ensures { (f : ℕ → ℕ) → ((c r : ℕ) → c < count → F.post figure c r → r ≡ f c) → lines.new ≡ fill_row row count f lines.old }

@@ -81,7 +81,7 @@ fn weight_after(part: u64, unmet: u64, weight: u64) -> u64
 }
 
 // Before anything is granted, notes the weight that each holder brings into W; hands back W, the open weights' sum. (By place,
-// as the passes go: a zip of three lists would yield pairs in pairs. Lent: `by_passes` keeps these weights from pass to pass.)
+// as the passes go: a zip of three lists would yield pairs in pairs. Lent: an answer of W and these weights would be taken apart at once.)
 fn weigh_open(claims: &[u64], weights: &[u64], open_weights: &mut [u64; MOST_HOLDERS]) -> u64
     requires { Weighable claims.now weights.now open_weights.old }
     ensures { let claims = claims.now in

@@ -80,8 +80,9 @@ fn either(test: bool, one: u32, other: u32) -> u32
 }
 
 // The slot of a record by its kind, holder, intertie and rank. (A comparison for each kind: by a match over `Kind` each record
-// branches on its kind, and the slots of 1,024 records take 0.8 µs longer, of a refusal's 7.6. Constants by kind, as rules.rt has,
-// were tried in plain Rust: 3.7 µs, and so 1.2. Casts: a key's fields have 32 bits, and places in tables are usize.)
+// branches on its kind, and the slots of 1,024 records take 0.8 µs longer, a tenth of a refusal. Constants by kind, as rules.rt has,
+// were tried in plain Rust: 3.7 µs, where the comparisons take 1.2 there. Casts: a key's fields have 32 bits, and places in tables
+// are usize.)
 fn slot(key: Key) -> u32
     requires { (key.holder < key_holders) × (key.intertie < key_interties) × (key.rank < key_ranks) }
     ensures { result ≡ slot key.kind key.holder key.intertie key.rank }
@@ -122,8 +123,8 @@ fn slot_of(key: u32) -> u32
     slot(Key::from(key))
 }
 
-// Finds the slot of each record and writes it into the room. (The room is the caller's, since memory is fixed and `Found` only
-// looks at it: in an answer its 4 KB would be moved or copied. By place, here and below: the laws of a record and its place serve
+// Finds the slot of each record and writes it into the room. (The room is the caller's: `Found` is handed on by value, and
+// with the slots in it 4 KB would go along each time. By place, here and below: the laws of a record and its place serve
 // all three walks.)
 pub(crate) fn find_slots<'a>(headed: &'a Headed<'a>, room: &'a mut [u32; MOST_RECORDS]) -> Found<'a>
     ensures { result.sheet.now ≡ headed.now }

@@ -13,8 +13,8 @@ use sheet_keys::key::Key;
 use sheet_records::reader::Record;
 use text::{NumberError, Pieces};
 
-// The first fault of a line, and its column. (Not nested in `Unreadable`, whose fields stand side by side for its callers and in
-// the definitions.)
+// The first fault of a line, and its column. (Not nested in `Unreadable`, whose fields stand side by side for its Display,
+// tests/compare and the definitions.)
 #[derive(Clone, Copy, Debug, PartialEq, Eq)]
 pub(crate) struct Flaw {
     pub column: usize,
@@ -50,8 +50,7 @@ fn kind_in(field: &[u8]) -> Result<u32, NumberError>
     }
 }
 
-// Reads the fields that are left, from a column on, and no field more. (By place, by which the column is counted too; a match and no
-// `map_err` with `?`: both read that place, for the number and for its column, and a match shows them side by side.)
+// Reads the fields that are left, from a column on, and no field more. (By place, by which the column is counted too.)
 fn read_numbers<const N: usize>(
     fields: &mut Pieces,
     column: usize,
@@ -62,21 +61,17 @@ fn read_numbers<const N: usize>(
 {
     let mut numbers = [0u32; N];
     for (i, most) in limits.iter().enumerate() {
+        let place = column + i;
         let Some(field) = fields.next() else {
             return Err(Flaw {
-                column: column + i,
+                column: place,
                 fault: Fault::WrongFields,
             });
         };
-        match check_number(text::read_number(field), *most) {
-            Ok(number) => numbers[i] = number,
-            Err(fault) => {
-                return Err(Flaw {
-                    column: column + i,
-                    fault,
-                });
-            }
-        }
+        numbers[i] = check_number(text::read_number(field), *most).map_err(|fault| Flaw {
+            column: place,
+            fault,
+        })?;
     }
     match fields.next() {
         Some(_) => Err(Flaw {
