@@ -217,6 +217,17 @@ fn by_passes(pool: u64, claims: &[u64], weights: &[u64], grants: &mut [u64]) -> 
     passes
 }
 
+// Grants each claim whole. (By place: `copy_from_slice` asks for C's `memmove`, which nothing else here does, and what a zip of
+// `iter_mut` lends is lost to the proof.)
+fn grant_all(claims: &[u64], grants: &mut [u64])
+    requires { length grants.old ≡ length claims.now }
+    ensures { grants.new ≡ claims.now }
+{
+    for (i, claim) in claims.iter().enumerate() {
+        grants[i] = *claim;
+    }
+}
+
 // Shares out what refusals 5 and 9 let pass: each claim whole where they fit, else by passes.
 fn share(pool: u64, claims: &[u64], weights: &[u64], grants: &mut [u64]) -> Granted
     requires { Accepted pool claims.now weights.now grants.old }
@@ -226,7 +237,7 @@ fn share(pool: u64, claims: &[u64], weights: &[u64], grants: &mut [u64]) -> Gran
 {
     let total = vectors::sum_of(claims);
     if total <= pool {
-        grants.copy_from_slice(claims);
+        grant_all(claims, grants);
         return Granted {
             kw: total,
             passes: 0,

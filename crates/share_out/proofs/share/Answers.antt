@@ -11,7 +11,7 @@ returns-then-total-pool c =
     let a = c.args in
     let sum = claimed-whole c.requires c.sum_of-total.ensures in (
       answer-whole a.pool a.claims.now a.weights.now c.sum_of-total.result sum c.if-total-pool.true,
-      c.copy_from_slice.ensures.after
+      c.grant_all.ensures
           ∙ sym (ap (λ (s : Shared). s.grants) (shared-fits a.pool a.claims.now a.weights.now (omega (arith, sum)))),
     )
 
