@@ -6,7 +6,6 @@ use Rattle.std.proofs.lemmas.List.FromFn.{length-map-range_with_len, get_or-map-
 use lib.ListN.{length-append, get_or}
 use Rattle.std.proofs.lemmas.Option.{none-some}
 use Rattle.base.proofs.ChoiceLaws.{or_left}
-use Rattle.std.proofs.Math.Bool.{or-true}
 use Rattle.std.proofs.lemmas.List.{length-map}
 use Rattle.std.specs.Iterator.Adapters.{enumerate_steps, enumerate_source, enumerate_count}
 use Rattle.std.specs.declared.iter.Enumerate.{Enumerate}
@@ -18,10 +17,10 @@ use Rattle.base.proofs.VectorLaws.{at-row}
 use Rattle.std.specs.Simd.{first_chunks}
 use Rattle.std.specs.Int.{from_le_bytes, w32}
 use Rattle.sheet_records.specs.Sheet.{word_at, count, key_at, kw_at}
-use Rattle.sheet_records.specs.Refusal.{bad_length}
-use Rattle.sheet_records.specs.Reading.{record_at, records_of, record_of, read_of, records_from}
+use Rattle.sheet_records.specs.Refusal.{bad_length, Whole}
+use Rattle.sheet_records.specs.Reading.{record_at, read_at, records_of, record_of, read_of, records_from}
 use Rattle.sheet_records.specs.declared.reader.Record.{Record}
-use Rattle.sheet_records.proofs.RefusalLaws.{whole}
+use Rattle.sheet_records.proofs.RefusalLaws.{whole, long-enough}
 
 -- a word of bytes fits 32 bits
 pub word_below : (s : List ℕ) (b : ℕ) → ((i : ℕ) → at s i < 256) → word_at s b ≤ 4_294_967_295
@@ -91,24 +90,13 @@ module _ (s : List ℕ) (n k : ℕ) where
       (λ t. let l = leb-false n k t in let m : n - k ≡ suc (n - (k + 1)) = omega arith in ap (λ m. map (record_of s n) (range_with_len k m)) m) in
       (leb-false n k found.1, ltb-false 1024 n (or_left _ _ found.0), found.2)
 
-  -- a place past the last
-  pub past-last : n - k ≡ 0 → read_of s n k ≡ None
-  unfolding read_of
-  past-last z = simp (le-leb n k (omega arith), or-true)
+-- a walk that finds no record has none left, and one that finds a record had it first
+module _ (s : List ℕ) (n k : ℕ) (left : List Record) (view : records_from s n k ≡ left) where
+  pub none_left : read_of s n k ≡ None → left ≡ []
+  none_left e = sym view ∙ (left-none s n k e).0
 
--- a reader at places that have come to their end, and at places of which the next was read
-module _ (s : List ℕ) (n k m l : ℕ) (left : List Record) (view : records_from s n k ≡ left) where
-  pub ended : (m ≡ n) × ((n - k ≡ 0) × (l ≡ k)) → (left ≡ []) × (records_from s m l ≡ [])
-  ended step =
-      let none = (left-none s n k (past-last s n k step.1.0)).0 in
-      (sym view ∙ none, rw (step.0, step.1.1) none)
-
-  pub next_left : (place : ℕ) (r : Option Record) → (m ≡ n) × ((0 < n - k) × (place ≡ k) × (l ≡ k + 1)) → r ≡ read_of s n place
-      → YieldsFirst (λ (x : List Record). x) left r (records_from s m l)
-  next_left place None step e =
-      let none = left-none s n k (rw (← step.1.1) (sym e)) in
-      (sym view ∙ none.0, rw (step.0, step.1.2) none.1)
-  next_left place (Some x) step e = sym view ∙ rw (step.0, step.1.2) (left-some s n k x (rw (← step.1.1) (sym e))).2
+  pub some_left : (x : Record) → read_of s n k ≡ Some x → (k < 1024) × (left ≡ x ∷ records_from s n (k + 1))
+  some_left x e = let one = left-some s n k x e in (omega (arith, one.0, one.1), sym view ∙ one.2)
 
 -- what is left after a record is fewer
 pub fewer_left : {can : List Record → Type 0} (left after : List Record) (r : Option Record) → ((x : List Record) → can x) → YieldsFirst (λ (x : List Record). x) left r after
@@ -141,6 +129,42 @@ pub record RecordRead (s : List ℕ) (k : ℕ) (r : Record) : Type 0 where
   pub inside : k < count s
   pub key-is : r.key ≡ key_at s k
   pub kw-is : r.kw ≡ kw_at s k
+
+-- in a sheet that refusal 1 lets pass, what is read at a place is its record there, and past the last there is none
+pub of-whole : (s : List ℕ) (n k : ℕ) → Whole s n → read_of s n k ≡ read_at s k
+unfolding read_of read_at
+of-whole s n k w = simp (w.passes, le-ltb 1024 n w.few, eq-eqb (length s) (12 + 8 * n) w.exact, ← w.records)
+
+module _ (s : List ℕ) (k : ℕ) (passes : bad_length s ≡ false) (o : Option Record) (found : o ≡ read_at s k) where
+  pub place-read : (r : Record) → o ≡ Some r → RecordRead s k r
+  unfolding read_at
+  place-read r e = go (leb (count s) k) refl (rw passes at (sym e ∙ found))
+    where
+      go : (b : Bool) → leb (count s) k ≡ b → Some r ≡ pick b None (Some (record_at s k)) → RecordRead s k r
+      go true t p = absurd (none-some r (sym p))
+      go false t p =
+          let there : r ≡ record_at s k = cc in
+          record { inside = leb-false (count s) k t; key-is = ap (λ (x : Record). x.key) there; kw-is = ap (λ (x : Record). x.kw) there }
+
+  pub at-end : o ≡ None → count s ≤ k
+  unfolding read_at
+  at-end e = go (leb (count s) k) refl (rw passes at (sym e ∙ found))
+    where
+      go : (b : Bool) → leb (count s) k ≡ b → None ≡ pick b None (Some (record_at s k)) → count s ≤ k
+      go true t p = leb-true (count s) k t
+      go false t p = absurd (none-some (record_at s k) p)
+
+-- the same of a reading in a sheet of as many records as its head says
+module _ (s : List ℕ) (n k : ℕ) (passes : bad_length s ≡ false) (read : n ≡ pick (ltb (length s) 12) 0 (count s)) (o : Option Record)
+    (found : o ≡ read_of s n k) where
+  in-whole : o ≡ read_at s k
+  in-whole = found ∙ of-whole s n k (whole s n passes (long-enough s n (count s) passes read))
+
+  pub read_next : (r : Record) → o ≡ Some r → RecordRead s k r
+  read_next = place-read s k passes o in-whole
+
+  pub read-end : o ≡ None → count s ≤ k
+  read-end = at-end s k passes o in-whole
 
 -- a loop over the records of a sheet that refusal 1 lets pass: the next one, and the end
 module _ (s : List ℕ) (passes : bad_length s ≡ false) (all had left : List Record) (begun : all ≡ records_of s)

@@ -8,7 +8,6 @@ use crate::words;
 use crate::words::KEYS_AT;
 use base::limits::{MOST_RECORDS, RECORD_BYTES, SHEET_HEADER_BYTES};
 use std::marker::Model;
-use std::ops::Range;
 
 // A record: its key, and its quantity in kilowatts.
 #[derive(Clone, Copy, Debug, PartialEq, Eq)]
@@ -36,36 +35,46 @@ pub fn read_at(sheet: &[u8], count: usize, place: usize) -> Option<Record>
     Some(Record { key, kw })
 }
 
-// A reader, seen as the list of the records that are left: the sheet and the places of these records, from the next one to the
-// number of all.
-#[derive(Drop)]
+// Where a walk over the records of a sheet stands: the sheet, how many records it has, and the place of the next.
+#[derive(Clone, Copy)]
 pub struct Reader<'a> {
-    sheet: &'a [u8],
-    places: Range<usize>,
+    pub sheet: &'a [u8],
+    pub count: usize,
+    pub place: usize,
 }
 
-impl<'a> Model for Reader<'a> {
+// A walk over records, seen as the list of those that are left: from where its reader stands to the last. (Not the reader
+// itself: what is seen as a list can't be copied.)
+#[derive(Drop)]
+pub struct Walk<'a> {
+    reader: Reader<'a>,
+}
+
+impl<'a> Model for Walk<'a> {
     ghost use Rattle.std.specs.Prelude.{List};
     ghost use Rattle.sheet_records.specs.Reading.{records_from};
     ghost use Rattle.sheet_records.specs.declared.reader.Record.{Record};
 
     ghost Value = { List Record };
 
-    ghost view = { λ reader. records_from reader.sheet.now reader.places.end reader.places.start };
+    ghost view = { λ walk. records_from walk.reader.sheet.now walk.reader.count walk.reader.place };
 }
 
 // The records of a sheet from the first on. A sheet that refusal 1 refuses has none.
 #[tactic(auto, using(crate::proofs::ReadingLaws::first))]
-pub fn records<'a>(sheet: &'a [u8]) -> Reader<'a>
+pub fn records<'a>(sheet: &'a [u8]) -> Walk<'a>
     ensures { result ≡ records_of sheet.now }
 {
-    Reader {
-        sheet,
-        places: 0..words::record_count(sheet) as usize,
+    Walk {
+        reader: Reader {
+            sheet,
+            count: words::record_count(sheet) as usize,
+            place: 0,
+        },
     }
 }
 
-impl<'a> Iterator for Reader<'a> {
+impl<'a> Iterator for Walk<'a> {
     type Item = Record;
 
     ghost next_gives = { YieldsFirst (λ left. left) };
@@ -73,8 +82,9 @@ impl<'a> Iterator for Reader<'a> {
     ghost remaining = { item_count (λ left. left) };
 
     fn next(&mut self) -> Option<Record> {
-        let count = self.places.end;
-        let place = self.places.next()?;
-        read_at(self.sheet, count, place)
+        let reader = self.reader;
+        let record = read_at(reader.sheet, reader.count, reader.place)?;
+        self.reader.place = reader.place + 1;
+        Some(record)
     }
 }
