@@ -10,7 +10,7 @@ use Rattle.base.proofs.SumLaws.{sum_to-add, sum_to-bound, sum_to-term, all_to-sa
 use Rattle.base.proofs.WordLaws.{at_fill, length-fill}
 use Rattle.state.specs.Layout.{interties, holders, limit_of, existing_of, pre_ra_of, new_use_of, placed_of, taken_of}
 use Rattle.state.specs.Orderly.{limits_in_range, balanced, intertie_kw}
-use Rattle.orderly.specs.Workers.Check.{pair_kw, pair_fits, Cleared, Added, limit_met}
+use Rattle.orderly.specs.Workers.Check.{pair_kw, pair_fits, Cleared, Summed, Added, limit_met}
 
 -- the bits of two words together are below 2 ^ k where and_both words are
 pub or-below : (k a b : ℕ) → ltb (bit_or a b) (2 ^ k) ≡ (ltb a (2 ^ k) && ltb b (2 ^ k))
@@ -130,7 +130,12 @@ all_to-split m (suc n) p = rw add-suc (sym (and_assoc (all_to m p) _ _) ∙ ap (
 -- the sums of no holder, and of some more
 pub added_none : (s sums : List ℕ) → Cleared (interties s) sums → Added s 0 0 sums
 unfolding all_to sum_to
-added_none s sums c = record { few = c.few; most = zero-le; places = c.places; fit = sym (all_to-all (interties s) (λ i. true) (λ i l. refl)); held = c.zeros }
+added_none s sums c =
+    record {
+      few = c.few;
+      places = c.places;
+      summed = record { most = zero-le; fit = sym (all_to-all (interties s) (λ i. true) (λ i l. refl)); held = c.zeros };
+    }
 
 pub added_more :
     (s sums next : List ℕ) (m n bits b : ℕ) → m + n ≤ 32 → Added s m bits sums
@@ -140,18 +145,21 @@ pub added_more :
 added_more s sums next m n bits b most added fits e =
     record {
       few = added.few;
-      most = most;
       places = ap (λ (k : List ℕ). length k) e ∙ length-fill (interties s) _ sums ∙ added.places;
-      fit =
-          or-below 25 bits b
-          ∙ ap (λ (x : Bool). x && ltb b (2 ^ 25)) added.fit
-          ∙ ap (λ (x : Bool). all_to (interties s) (λ i. all_to m (λ h. pair_fits s h i)) && x) fits
-          ∙ sym (all_to-both (interties s) (λ i. all_to m (λ h. pair_fits s h i)) (λ i. all_to n (λ k. pair_fits s (m + k) i)))
-          ∙ all_to-same (interties s) _ _ (λ i l. all_to-split m n (λ h. pair_fits s h i));
-      held =
-          λ i l.
-          sums-turn sums next (interties s) (λ j. sum_to n (λ k. pair_kw s (m + k) j)) (λ j. sum_to m (λ h. pair_kw s h j)) e (omega (arith, added.places, added.few)) added.held i l
-          ∙ ap (λ (x : ℕ). x % 2 ^ 32) (sum_to-split m n (λ h. pair_kw s h i));
+      summed = record {
+        most = most;
+        fit =
+            or-below 25 bits b
+            ∙ ap (λ (x : Bool). x && ltb b (2 ^ 25)) added.summed.fit
+            ∙ ap (λ (x : Bool). all_to (interties s) (λ i. all_to m (λ h. pair_fits s h i)) && x) fits
+            ∙ sym (all_to-both (interties s) (λ i. all_to m (λ h. pair_fits s h i)) (λ i. all_to n (λ k. pair_fits s (m + k) i)))
+            ∙ all_to-same (interties s) _ _ (λ i l. all_to-split m n (λ h. pair_fits s h i));
+        held =
+            λ i l.
+            sums-turn sums next (interties s) (λ j. sum_to n (λ k. pair_kw s (m + k) j)) (λ j. sum_to m (λ h. pair_kw s h j)) e
+            (omega (arith, added.places, added.few)) added.summed.held i l
+            ∙ ap (λ (x : ℕ). x % 2 ^ 32) (sum_to-split m n (λ h. pair_kw s h i));
+      };
     }
 
 pub added-same : (s sums : List ℕ) (m n bits : ℕ) → m ≡ n → Added s m bits sums → Added s n bits sums
@@ -214,25 +222,25 @@ fits-tell s sums most held fits =
 pub limits-balance-is :
     (s sums : List ℕ) (n bits : ℕ) → n ≡ interties s → {range met : Bool}
     → range ≡ all_to n (λ i. leb (limit_of s i) 20000000)
-    → Added s (holders s) bits sums
+    → Summed s (holders s) bits sums
     → met ≡ all_to (interties s) (λ i. limit_met s i (at sums i))
     → (range && ltb bits (2 ^ 25) && met) ≡ (limits_in_range s && balanced s)
 unfolding limits_in_range
-limits-balance-is s sums n bits count {range} {met} tested added c =
+limits-balance-is s sums n bits count {range} {met} tested summed c =
     let small : Bool = ltb bits (2 ^ 25) in
-    let b = added.fit in
-    let held = added.held in
+    let b = summed.fit in
+    let held = summed.held in
     let a : range ≡ all_to (interties s) (λ i. leb (limit_of s i) 20000000) = rw count at tested in
     same_test (range && small && met) (limits_in_range s && balanced s)
     (λ (e : (range && small && met) ≡ true).
     let two : (range && small) ≡ true = and_left (range && small) met e in
     let fits = each-pair (interties s) (holders s) (λ i h. pair_fits s h i) (sym b ∙ and_right range small two) in
     and_both (limits_in_range s) (balanced s) (sym a ∙ and_left range small two)
-    (sym (fits-tell s sums added.most held fits) ∙ sym c ∙ and_right (range && small) met e))
+    (sym (fits-tell s sums summed.most held fits) ∙ sym c ∙ and_right (range && small) met e))
     (λ (e : (limits_in_range s && balanced s) ≡ true).
     let in-range = and_left (limits_in_range s) (balanced s) e in
     let Met-all = and_right (limits_in_range s) (balanced s) e in
     let fits = met-fits s in-range Met-all in
     and_both (range && small) met
     (and_both range small (a ∙ in-range) (b ∙ all-pairs (interties s) (holders s) (λ i h. pair_fits s h i) fits))
-    (c ∙ fits-tell s sums added.most held fits ∙ Met-all))
+    (c ∙ fits-tell s sums summed.most held fits ∙ Met-all))

@@ -57,13 +57,18 @@ pub record Cleared (n : ℕ) (sums : List ℕ) : Type 0 where
   pub places : length sums ≡ most_interties
   pub zeros : (i : ℕ) → i < n → at sums i ≡ 0
 
--- sums of the first m holders' kW on each intertie, in 32 bits, and bits that are below 2 ^ 25 where the kW of each of their pairs are
-pub record Added (s : List ℕ) (m bits : ℕ) (sums : List ℕ) : Type 0 where
-  pub few : interties s ≤ most_interties
+-- what the first m holders' kW on each intertie say: their sums, in 32 bits, and bits that are below 2 ^ 25 where the kW of each of their
+-- pairs are
+pub record Summed (s : List ℕ) (m bits : ℕ) (sums : List ℕ) : Type 0 where
   pub most : m ≤ most_holders
-  pub places : length sums ≡ most_interties
   pub fit : ltb bits too_many_kw ≡ all_to (interties s) (λ i. all_to m (λ h. pair_fits s h i))
   pub held : (i : ℕ) → i < interties s → at sums i ≡ sum_to m (λ h. pair_kw s h i) % 2 ^ 32
+
+-- such sums, with a place for each intertie
+pub record Added (s : List ℕ) (m bits : ℕ) (sums : List ℕ) : Type 0 where
+  pub few : interties s ≤ most_interties
+  pub places : length sums ≡ most_interties
+  pub summed : Summed s m bits sums
 
 -- whether an intertie's limit is its outside rights, the kW of its pairs and its unassigned kW
 abbrev pub limit_met : List ℕ → ℕ → ℕ → Bool

@@ -14,4 +14,4 @@ add_holders-bits-requires c = record {
 
 pub returns : goal.returns
 returns c =
-    limits-balance-is _ _ _ _ c.interties-interties.ensures.0 (c.within.ensures ∙ row-within _ _ _ c.row.ensures _) c.add_holders-bits.ensures c.limits_met.ensures
+    limits-balance-is _ _ _ _ c.interties-interties.ensures.0 (c.within.ensures ∙ row-within _ _ _ c.row.ensures _) c.add_holders-bits.ensures.summed c.limits_met.ensures
