@@ -1,5 +1,5 @@
 -- Laws of `sum_to` and `all_to`, each by induction on the count.
-use Rattle.std.proofs.Common.{◌≡◌, ℕ, zero, suc, ◌+◌, ◌*◌, ◌<◌, ◌≤◌, Bool, true, ◌&&◌, eqb, leb, ◌≢◌, ◌⊎◌, sym, refl, ap, ◌∙◌, ⊎_elim, zero-le, le_trans, le_refl, le_of_suc-le-suc, not-suc-le-zero, add-zero, add-suc, mul-le-mul_right, lt-suc_self, suc-mul, eq-or-lt_of_le, mul-zero, mul-suc, mul-add, add-one, arith, eq-eqb, eqb-true, le-leb, leb-true}
+use Rattle.std.proofs.Common.{◌≡◌, ℕ, zero, suc, ◌+◌, ◌-◌, ◌*◌, ◌<◌, ◌≤◌, Bool, true, ◌&&◌, eqb, leb, ◌≢◌, ◌⊎◌, sym, refl, ap, ◌∙◌, ⊎_elim, zero-le, le_trans, le_refl, le_of_suc-le-suc, not-suc-le-zero, add-zero, add-suc, mul-le-mul_right, lt-suc_self, suc-mul, eq-or-lt_of_le, mul-zero, mul-suc, mul-add, add-one, arith, eq-eqb, eqb-true, le-leb, leb-true}
 use mathlib.Core.Bool.{and-true, and_assoc}
 use native.Mathlib.Nat.{le_step}
 use Rattle.base.specs.Sums.{sum_to, all_to}
@@ -56,6 +56,15 @@ unfolding sum_to
 sum_to-add zero f g = refl
 sum_to-add (suc n) f g =
     let e : sum_to n (λ i. f i + g i) ≡ sum_to n f + sum_to n g = sum_to-add n f g in
+    omega arith
+
+-- a sum of differences of which none is below 0
+pub sum_to-sub : (n : ℕ) (f g : ℕ → ℕ) → ((i : ℕ) → i < n → g i ≤ f i) → sum_to n (λ i. f i - g i) + sum_to n g ≡ sum_to n f
+unfolding sum_to
+sum_to-sub zero f g h = refl
+sum_to-sub (suc n) f g h =
+    let e : sum_to n (λ i. f i - g i) + sum_to n g ≡ sum_to n f = sum_to-sub n f g (λ i l. h i (le_step l)) in
+    let t : g n ≤ f n = h n (lt-suc_self n) in
     omega arith
 
 -- a common factor

@@ -1,14 +1,16 @@
 -- Lists of records with one record more, and the records that are kept of a sheet.
-use Rattle.std.proofs.Common.{ℕ, zero, suc, ◌+◌, ◌≤◌, ◌<◌, max, ◌≡◌, refl, sym, ap, ◌∙◌, Bool, true, false, ◌≢◌, ⊎_elim, List, [], ◌∷◌, ◌++◌, append-nil, add-zero, le_refl, lt-suc_self, not-suc-le-zero, add-one, arith, eqb, ltb, length, length-append, get_or-append-add, ne_eqb}
+use Rattle.std.proofs.Common.{ℕ, zero, suc, ◌+◌, ◌≤◌, ◌<◌, max, ◌≡◌, refl, sym, ap, ◌∙◌, Bool, true, false, ◌&&◌, ◌≢◌, ⊎_elim, List, [], ◌∷◌, ◌++◌, append-nil, add-zero, le_refl, lt-suc_self, not-suc-le-zero, add-one, arith, eqb, ltb, length, length-append, get_or-append-add, ne_eqb}
 use native.Mathlib.Nat.{max-zero, zero-max, le_step}
 use lib.ListN.{get_or-append}
 use Rattle.base.specs.Choice.{pick}
-use Rattle.base.proofs.ChoiceLaws.{and-false}
+use Rattle.base.proofs.ChoiceLaws.{pick-by, and-false}
 use Rattle.base.proofs.SumLaws.{below_suc}
+use Rattle.sheet_keys.specs.Key.{kind_of, holder_of, rank_of}
+use Rattle.sheet_keys.proofs.KeyLaws.{same_key}
 use Rattle.sheet_records.specs.Sheet.{count, key_at, kw_at}
 use Rattle.state.specs.Layout.{interties, holders, locked_of}
-use Rattle.carrying.specs.NextRecord.{NextRecord, record_in}
-use Rattle.carrying.specs.NextRecords.{goes_on, next_record, kept_of, kept, rank_for, highest, lock_record, with_locks_of, with_locks, next_records}
+use Rattle.carrying.specs.NextRecord.{NextRecord, key_of, record_in}
+use Rattle.carrying.specs.NextRecords.{yearless, goes_on, next_record, kept_of, kept, rank_for, highest, lock_record, with_locks_of, with_locks, next_records}
 
 abbrev pub no_record : NextRecord
 no_record = record { kind = 0; holder = 0; intertie = 0; rank = 0; years = 0; kw = 0 }
@@ -58,6 +60,26 @@ kept-few s (suc k) =
     either_way (λ (l : List NextRecord). length l ≤ suc k) (goes_on (key_at s k)) (kept s k) x
     (λ _. omega (arith, length_more (kept s k) x))
     (λ _. omega arith)
+
+-- an old record has a rank of at most 255, or none
+rank-small : (h : ℕ) (key quantity : ℕ) → rank_for h (next_record key quantity) ≤ 255
+rank-small h key quantity =
+    pick-by (λ (n : ℕ). n ≤ 255) (eqb (kind_of key) 6 && eqb (holder_of key) h) (rank_of key) 0 (λ _. omega arith) (λ _. omega arith)
+
+-- a holder's highest rank among the kept records is at most 255
+pub kept_low : (s : List ℕ) (k h : ℕ) → highest h (kept s k) ≤ 255
+unfolding kept
+kept_low s zero h = omega (arith, highest-none h)
+kept_low s (suc k) h =
+    let before : highest h (kept s k) ≤ 255 = kept_low s k h in
+    let x : NextRecord = next_record (key_at s k) (kw_at s k) in
+    either_way (λ (l : List NextRecord). highest h l ≤ 255) (goes_on (key_at s k)) (kept s k) x
+    (λ _. rw (highest-more h (kept s k) x) (omega (arith, rank-small h (key_at s k) (kw_at s k))))
+    (λ _. before)
+
+-- kinds 1, 2 and 3 are written as they were
+pub yearless-same : (key q : ℕ) → yearless key ≡ true → key_of (next_record key q) ≡ key
+yearless-same key q t = rw t (same_key key)
 
 -- what holds of each record
 abbrev pub AllRecords : (NextRecord → Type 0) → List NextRecord → Type 0

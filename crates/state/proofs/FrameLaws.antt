@@ -1,5 +1,5 @@
 -- What a store changes and what it leaves, by rows and columns.
-use Prim.Native.Nat.{ℕ, ◌+◌, ◌≤◌, ◌<◌}
+use Prim.Native.Nat.{ℕ, ◌+◌, ◌/◌, ◌%◌, ◌≤◌, ◌<◌}
 use mathlib.Core.Path.{◌≡◌, refl, ◌∙◌}
 use mathlib.Core.List.{List}
 use mathlib.Core.Logic.{◌≢◌}
@@ -64,6 +64,12 @@ same-store-below a b s r c v l below =
 pub same-store-past : (a b : ℕ) (s : List ℕ) (r c v : ℕ) → c < 48 → b ≤ r → SameRows a b s (set s (place r c) v)
 same-store-past a b s r c v l past =
     record { same = λ r' c' m n k. at-other-row s r c v r' c' l k (omega arith) }
+
+-- what opening wrote, by places: all words below the first row that calls write
+pub same-below : {s t : List ℕ} → SameOpening s t → (p : ℕ) → p < place first_written 0 → at t p ≡ at s p
+same-below {s} {t} f p l =
+    let whole : place (p / 48) (p % 48) ≡ p = omega arith in
+    rw whole at (f.same (p / 48) (p % 48) (omega arith) (omega arith) (omega arith))
 
 -- the sizes stay with what opening wrote
 pub same-interties : {s t : List ℕ} → SameOpening s t → interties t ≡ interties s

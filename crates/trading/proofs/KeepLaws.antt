@@ -6,7 +6,7 @@ use mathlib.Core.Logic.{◌⊎◌}
 use native.Mathlib.Omega.{arith}
 use Rattle.base.specs.Sums.{sum_to}
 use Rattle.base.specs.Words.{at}
-use Rattle.state.specs.Layout.{place, interties, holders, stage_of, unassigned_of, unplaced_of, sellers_of, locked_of, pending_of, of_holder}
+use Rattle.state.specs.Layout.{place, interties, holders, stage_of, unassigned_of, unplaced_of, sellers_of, placed_of, taken_of, locked_of, pending_of, on_intertie, of_holder}
 use Rattle.state.proofs.FrameLaws.{SameRows, SameOpening, same-within, same-interties, same-holders, same-on-intertie, same-of-holder}
 use Rattle.state.proofs.OrderlyLaws.{Orderly}
 
@@ -53,6 +53,18 @@ module _ {s t : List ℕ} (o : Orderly s) (same : SameOthers s t) where
   -- what an intertie has unassigned
   pub unassigned-same : (i : ℕ) → i < interties s → unassigned_of t i ≡ unassigned_of s i
   unassigned-same i l = early same 104 i (omega arith) (omega (arith, o.interties-most))
+
+  -- all that is placed on an intertie
+  pub placed-sum-same : (i : ℕ) → i < interties s → on_intertie placed_of t i ≡ on_intertie placed_of s i
+  placed-sum-same i l = field-sum-same 109 i same.after (omega arith) (omega arith) (omega (arith, o.interties-most))
+
+  -- all that is taken on an intertie
+  pub taken-sum-same : (i : ℕ) → i < interties s → on_intertie taken_of t i ≡ on_intertie taken_of s i
+  taken-sum-same i l = field-sum-same 141 i same.after (omega arith) (omega arith) (omega (arith, o.interties-most))
+
+  -- the locked kW of a pair
+  pub locked-same : (h i : ℕ) → h < holders s → i < interties s → locked_of t h i ≡ locked_of s h i
+  locked-same h i k l = late same (173 + h) i (omega arith) (omega (arith, o.holders-most)) (omega (arith, o.interties-most))
 
   -- the locked kW of a holder together
   pub locked-sum-same : (h : ℕ) → h < holders s → of_holder locked_of t h ≡ of_holder locked_of s h

@@ -1,16 +1,16 @@
 -- What a request that isn't refused finds, and what it leaves.
-use Prim.Native.Nat.{ℕ, ◌+◌, ◌≤◌, ◌<◌}
-use mathlib.Core.Path.{◌≡◌}
-use mathlib.Core.Bool.{not, ◌||◌}
+use Prim.Native.Nat.{ℕ, ◌+◌, ◌-◌, ◌≤◌, ◌<◌}
+use mathlib.Core.Path.{◌≡◌, sym}
+use mathlib.Core.Bool.{true, not, ◌||◌}
 use mathlib.Core.List.{List}
 use mathlib.Core.Logic.{◌≢◌, ◌⊎◌, ⊎_elim}
 use native.Mathlib.Decide.{ℕ_discrete}
 use native.Mathlib.Omega.{arith}
 use lib.Dec.{ltb, eqb}
 use lib.ListN.{length, set, length-set}
-use borrow.Author.Tests.{ltb-false}
+use borrow.Author.Tests.{lt-ltb, ltb-true, ltb-false}
 use Rattle.base.specs.Sums.{sum_to}
-use Rattle.base.proofs.ChoiceLaws.{or_left, or_right}
+use Rattle.base.proofs.ChoiceLaws.{or_left, or_right, same_test}
 use Rattle.base.proofs.SumLaws.{sum_to-same}
 use Rattle.base.specs.Limits.{state_words}
 use Rattle.state.specs.Layout.{interties, holders, stage_of, unplaced_of, sellers_of, pending_at, pending_of, of_holder}
@@ -62,6 +62,19 @@ request-room s h i kw e =
 pub request-stored : (s t : List ℕ) (h i kw pending : ℕ) → pending ≡ pending_of s h i → t ≡ set s (pending_at h i) (pending + kw) → t ≡ request_state s h i kw
 unfolding request_state
 request-stored s t h i kw pending e f = rw (f, e)
+
+-- kW and what is pending are more than the unplaced where what is pending is
+pub over-by-pending : (unplaced held kw most pending : ℕ) →
+    most ≡ unplaced → pending ≡ held → most < pending → true ≡ ltb unplaced (held + kw)
+over-by-pending unplaced held kw most pending a b l = sym (lt-ltb unplaced (held + kw) (omega arith))
+
+-- where what is pending isn't, they are more exactly if the kW are more than the rest
+pub over-by-rest : (unplaced held kw most pending : ℕ) →
+    most ≡ unplaced → pending ≡ held → pending ≤ most → ltb (most - pending) kw ≡ ltb unplaced (held + kw)
+over-by-rest unplaced held kw most pending a b l =
+    same_test (ltb (most - pending) kw) (ltb unplaced (held + kw))
+    (λ (e : ltb (most - pending) kw ≡ true). lt-ltb unplaced (held + kw) (omega (arith, ltb-true (most - pending) kw e)))
+    (λ (e : ltb unplaced (held + kw) ≡ true). lt-ltb (most - pending) kw (omega (arith, ltb-true unplaced (held + kw) e)))
 
 pub request-length : (s : List ℕ) (h i kw : ℕ) → length (request_state s h i kw) ≡ length s
 unfolding request_state

@@ -209,3 +209,8 @@ year-none calls s answers = (refl, refl)
 
 pub year-all : (calls s answers : List ℕ) (count : ℕ) {n : ℕ} {t a : List ℕ} → YearRan calls s answers n t a → n ≡ count → YearRan calls s answers count t a
 year-all calls s answers count ran e = (ran.0 ∙ ap (state_after calls s) e, ran.1 ∙ ap (answers_after calls s answers) e)
+
+-- what isn't untrue is true
+pub ran-true : (b : Bool) → not b ≡ false → b ≡ true
+ran-true true e = refl
+ran-true false e = absurd (true≢false e)
