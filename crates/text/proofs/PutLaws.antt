@@ -13,7 +13,7 @@ use Rattle.std.specs.Prelude.{◌↔◌, Result, Ok, Err, IsOk, OnOk, OnErr}
 use Rattle.std.specs.Fmt as Fmt
 use Rattle.base.specs.Words.{at}
 use Rattle.base.proofs.ChoiceLaws.{pick-by}
-use Rattle.text.specs.Written.{appended}
+use Rattle.text.specs.Written.{written, PutWithin, appended}
 use Rattle.text.specs.Decimal.{decimal}
 use Rattle.text.specs.Lines.{line_end, figure, figures_of, line_of, bounded_line}
 use Rattle.text.proofs.DecimalLaws.{decimal-of}
@@ -110,3 +110,19 @@ module _ (label : List ℕ) (separator : ℕ) (figures l m n : List ℕ) (short 
 pub appended-nothing : (room : ℕ) (l : List ℕ) → l ≡ appended room [] l
 unfolding appended
 appended-nothing room l = pick-by (λ (m : List ℕ). l ≡ m) (leb (length l + 0) room) (l ++ []) l (λ _. sym (append-nil l)) (λ _. refl)
+
+-- a text from a place on, and the place after it
+abbrev pub Put : ℕ → List ℕ → ℕ → List ℕ → List ℕ → Type 0
+Put place text next l m = (next ≡ place + length text) × (m ≡ written place text l)
+
+-- the same in bytes that are lent: a text that there is room for, and one that there is none for
+pub put-fits : (place next : ℕ) (text l m : List ℕ) → place + length text ≤ length l → PutWithin place text next l m →
+    Put place text next l m
+put-fits place next text l m fit p = rw (le-leb (place + length text) (length l) fit) at p
+
+pub fits-put : (place next : ℕ) (text l m : List ℕ) → place + length text ≤ length l → Put place text next l m →
+    PutWithin place text next l m
+fits-put place next text l m fit p = rw (le-leb (place + length text) (length l) fit) p
+
+pub no_room : (place : ℕ) (text l : List ℕ) → length l < place + length text → PutWithin place text place l l
+no_room place text l over = rw (lt-leb (place + length text) (length l) over) (refl, refl)

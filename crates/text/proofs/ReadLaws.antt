@@ -1,24 +1,21 @@
 -- What the digits of a text are as a number: digit by digit, and read back from the decimal text.
-use Prim.Native.Nat.{ℕ, zero, suc, ◌+◌, ◌-◌, ◌*◌, ◌/◌, ◌%◌, ◌^◌, ◌<◌}
+use Prim.Native.Nat.{ℕ, zero, suc, ◌+◌, ◌-◌, ◌*◌, ◌/◌, ◌%◌, ◌^◌, ◌≤◌, ◌<◌}
 use mathlib.Core.Path.{◌≡◌, refl, sym, ap, ◌∙◌}
 use mathlib.Core.Bool.{true, false, ◌&&◌}
 use Rattle.std.specs.List.{list_all}
 use mathlib.Core.List.{List, [], ◌∷◌, ◌++◌}
-use native.Mathlib.Nat.{pow-suc, add-mul, mul_assoc}
+use native.Mathlib.Nat.{pow-suc, add-mul, mul_assoc, one-le-pow, mul-le-mul}
+use native.Mathlib.Numerals.{add-one}
 use native.Mathlib.Omega.{arith}
 use lib.Dec.{ltb, leb}
 use lib.Pow.{pow-add}
-use lib.ListN.{length, length-append}
+use lib.ListN.{length, length-append, take, drop, take-append-drop}
+use lib.Seq.{take-suc}
 use borrow.Author.Tests.{leb-true, le-leb, ltb-true, lt-ltb, le-ltb}
+use Rattle.base.specs.Words.{at}
 use Rattle.base.proofs.ChoiceLaws.{and_left, and_right, and_both, and-false, pick-by}
 use Rattle.text.specs.Decimal.{digit, decimal, decimal_to, is_digit, all_digits, value, number_of}
-use Rattle.std.specs.Prelude.{Result, Ok, Err}
-use Rattle.std.specs.Result.{result_or}
-use Rattle.std.specs.Str.{IsUtf8}
-use Rattle.std.specs.Str.Parse.{ParsesUnsigned}
-use Rattle.std.proofs.lemmas.Str.{IsUtf8-from_ascii}
-use Rattle.std.proofs.lemmas.Str.Parse.{IsDigitsTest, IsNumeralModel, numerals_by_weight, parse_digits}
-use Rattle.std.proofs.lemmas.Fmt.{IsAscii-from_digits}
+use Rattle.std.specs.Prelude.{Ok, Err}
 use Rattle.text.specs.declared.reading.NumberError.TheVariants.{Over, Bad}
 
 -- the value of digits after others
@@ -37,26 +34,34 @@ pub value-more : (t : List ℕ) (byte : ℕ) → value (t ++ (byte ∷ [])) ≡ 
 unfolding value
 value-more t byte = value-append t (byte ∷ []) ∙ omega arith
 
--- a text of digits is one as the library reads it, of the same value
-digits-test : IsDigitsTest (λ text. all_digits text ≡ true)
-unfolding all_digits
-digits-test = record {
-  empty = refl;
-  parts = λ byte text all.
-      let first : is_digit byte ≡ true = and_left (is_digit byte) (all_digits text) all in (
-        (leb-true 48 byte (and_left (leb 48 byte) (leb byte 57) first), leb-true byte 57 (and_right (leb 48 byte) (leb byte 57) first)),
-        and_right (is_digit byte) (all_digits text) all,
-      );
-  more = λ byte text range all.
-      and_both (is_digit byte) (all_digits text) (and_both (leb 48 byte) (leb byte 57) (le-leb 48 byte range.0) (le-leb byte 57 range.1)) all;
-}
-
-numerals : IsNumeralModel (λ text. all_digits text ≡ true) value
+-- a loop that reads digits: its beginning, and a turn
+pub value_none : value [] ≡ 0
 unfolding value
-numerals = numerals_by_weight _ digits-test value (record { empty = refl; more = λ byte text range. refl })
+value_none = refl
 
-pub digits-text : (text : List ℕ) → all_digits text ≡ true → IsUtf8 text
-digits-text text all = IsUtf8-from_ascii text (IsAscii-from_digits text (numerals.to text all))
+pub value-turn : (text : List ℕ) (i : ℕ) → i < length text → value (take (i + 1) text) ≡ 10 * value (take i text) + (at text i - 48)
+value-turn text i inside = rw (add-one i, take-suc text i 0 inside) (value-more (take i text) (at text i))
+
+-- the first digits of a number are no more than it
+pub value-front : (i : ℕ) (text : List ℕ) → value (take i text) ≤ value text
+value-front i text =
+    let whole : value text ≡ value (take i text) * 10 ^ length (drop i text) + value (drop i text) =
+    ap value (sym (take-append-drop i text)) ∙ value-append (take i text) (drop i text) in
+    let some : 1 ≤ 10 ^ length (drop i text) = one-le-pow (length (drop i text)) 10 (omega arith) in
+    let more : value (take i text) * 1 ≤ value (take i text) * 10 ^ length (drop i text) = mul-le-mul (omega arith) some in
+    omega arith
+
+-- every byte of digits is one
+digits-at : (text : List ℕ) → all_digits text ≡ true → (i : ℕ) → i < length text → is_digit (at text i) ≡ true
+unfolding all_digits
+digits-at [] all i h = absurd (omega arith)
+digits-at (byte ∷ text) all zero h = and_left (is_digit byte) (all_digits text) all
+digits-at (byte ∷ text) all (suc i) h = digits-at text (and_right (is_digit byte) (all_digits text) all) i (omega arith)
+
+pub digit-range : (text : List ℕ) → all_digits text ≡ true → (i : ℕ) → i < length text → (48 ≤ at text i) × (at text i ≤ 57)
+digit-range text all i h =
+    let e : is_digit (at text i) ≡ true = digits-at text all i h in
+    (leb-true 48 (at text i) (and_left (leb 48 (at text i)) (leb (at text i) 57) e), leb-true (at text i) 57 (and_right (leb 48 (at text i)) (leb (at text i) 57) e))
 
 -- a test of every byte is one of every digit
 pub digits-all : (text : List ℕ) → list_all is_digit text ≡ all_digits text
@@ -75,22 +80,13 @@ module _ (text : List ℕ) where
   number-bad e = rw (← e, and-false (ltb 0 (length text)) false refl) refl
 
   module _ (some : 0 < length text) (all : all_digits text ≡ true) where
-    number-over : ¬ (value text < 2 ^ 32) → Err Over ≡ number_of text
+    pub number-over : ¬ (value text < 2 ^ 32) → Err Over ≡ number_of text
     unfolding number_of
     number-over large = rw (all, lt-ltb 0 (length text) some, le-ltb (value text) (2 ^ 32) (omega (arith, large))) refl
 
-    number-value : (n : ℕ) → n ≡ value text → n < 2 ^ 32 → Ok n ≡ number_of text
+    pub number-value : (n : ℕ) → n ≡ value text → n < 2 ^ 32 → Ok n ≡ number_of text
     unfolding number_of
     number-value n e small = rw (all, lt-ltb 0 (length text) some, ← e, lt-ltb n (2 ^ 32) small) refl
-
-    -- what the library reads of it, with each error as Over
-    pub number-parsed : {E : Type 0} (parsed : Result ℕ E) → ParsesUnsigned 32 10 text parsed → result_or parsed (Err Over) ≡ number_of text
-    number-parsed {E} (Ok n) parses =
-        let p = parse_digits numerals {E = E} 32 text (Ok n) parses all in
-        number-value n p.1 (omega (arith, p.0.1, p.1))
-    number-parsed {E} (Err e) parses =
-        let p = parse_digits numerals {E = E} 32 text (Err e) parses all in
-        number-over (λ small. p (some, small))
 
 -- reading back the decimal text of a number
 is_digit-digit : (d : ℕ) → d < 10 → is_digit (digit d) ≡ true

@@ -7,6 +7,6 @@ mod reading;
 mod writing;
 
 pub use comparing::same;
-pub use pieces::{Pieces, split};
+pub use pieces::{Pieces, before, piece_end, split};
 pub use reading::{NumberError, read_number};
-pub use writing::put_line;
+pub use writing::{LINE_BYTES, line, put_figure, put_line, put_within};

@@ -1,17 +1,29 @@
 // Where a text has its separators, and its pieces between them.
-ghost use Rattle.std.specs.Prelude.{◌≡◌};
+ghost use Rattle.std.specs.Prelude.{◌≡◌, ◌+◌, ◌-◌, ◌≤◌, length, drop};
 ghost use Rattle.std.specs.Iterator.{YieldsFirstBy, item_count};
 ghost use Rattle.io.specs.Counts.{IsPrefixLen};
 ghost use Rattle.text.specs.Pieces.{before, fields};
 ghost use Rattle.text.specs.Left.{pieces_left};
 
 // How many bytes stand before the first separator; all of them where there is none.
-fn before(text: &[u8], separator: u8) -> usize
+pub fn before(text: &[u8], separator: u8) -> usize
     ensures { (result ≡ before separator text.now) × IsPrefixLen result text.now }
 {
     text.iter()
         .position(|byte| *byte == separator)
         .unwrap_or(text.len())
+}
+
+// Where the piece that starts at a place ends: at the first separator from there on, or with the text. Past the
+// text a piece ends where it starts.
+pub fn piece_end(text: &[u8], from: usize, separator: u8) -> usize
+    ensures { let t = text.now in
+        (result ≡ from + before separator (drop from t)) × (from ≤ result) × (result ≤ from + (length t - from)) }
+{
+    if text.len() < from {
+        return from;
+    }
+    from + before(&text[from..], separator)
 }
 
 // The pieces of a text between its separators, one after the other: `rest` is what is left of it, none past its last
