@@ -1,6 +1,6 @@
 // Why a line of a journal can't be read.
-ghost use Rattle.std.specs.Prelude.{◌≡◌};
-ghost use Rattle.journal.specs.Faults.{fault_of};
+ghost use Rattle.std.specs.Prelude.{◌≡◌, Some};
+ghost use Rattle.journal.specs.Faults.{fault_of, fault_text, unreadable_text};
 
 use std::fmt;
 use text::NumberError;
@@ -32,6 +32,8 @@ impl From<NumberError> for Fault {
 
 // As program `year` says them.
 impl fmt::Display for Fault {
+    ghost output = { λ fault. Some (fault_text fault) };
+
     fn fmt<W: fmt::Write>(&self, f: &mut fmt::Formatter<W>) -> fmt::Result {
         f.write_str(match self {
             Fault::NotACall => "not a call",
@@ -49,7 +51,10 @@ pub struct Unreadable {
     pub fault: Fault,
 }
 
+// As `line 3: not a call`.
 impl fmt::Display for Unreadable {
+    ghost output = { λ unreadable. Some (unreadable_text unreadable) };
+
     fn fmt<W: fmt::Write>(&self, f: &mut fmt::Formatter<W>) -> fmt::Result {
         write!(f, "line {}: {}", self.line, self.fault)
     }

@@ -1,6 +1,8 @@
 // What is wrong with a table.
-ghost use Rattle.std.specs.Prelude.{◌≡◌};
+ghost use Rattle.std.specs.Prelude.{◌≡◌, Some};
+ghost use Rattle.std.specs.Option.{option_map};
 ghost use Rattle.sheet_table.specs.Fields.{fault_of};
+ghost use Rattle.sheet_table.specs.Faults.{column_name, fault_text, unreadable_text};
 
 use std::fmt;
 use text::NumberError;
@@ -38,25 +40,29 @@ pub struct Unreadable {
     pub fault: Fault,
 }
 
-// The columns of the first line.
-const SIZES: [&str; 2] = ["interties", "holders"];
-
-// The columns of a record.
-const FIELDS: [&str; 6] = ["kind", "holder", "intertie", "rank", "years", "kw"];
-
 impl Unreadable {
     // The name of its column, none past the last.
-    fn column_name(&self) -> Option<&'static str> {
-        let place = self.column.checked_sub(1)?;
-        if self.line == 1 {
-            SIZES.get(place).copied()
-        } else {
-            FIELDS.get(place).copied()
+    #[tactic(auto, unfolding(crate::specs::Faults::size_name, crate::specs::Faults::field_name))]
+    fn column_name(&self) -> Option<&'static str>
+        ensures { option_map (λ name. name.now) result ≡ column_name self.now.line self.now.column }
+    {
+        match (self.line == 1, self.column) {
+            (true, 1) => Some("interties"),
+            (true, 2) => Some("holders"),
+            (false, 1) => Some("kind"),
+            (false, 2) => Some("holder"),
+            (false, 3) => Some("intertie"),
+            (false, 4) => Some("rank"),
+            (false, 5) => Some("years"),
+            (false, 6) => Some("kw"),
+            _ => None,
         }
     }
 
     // What its fault means in a column that there is.
-    fn reason(&self) -> &'static str {
+    fn reason(&self) -> &'static str
+        ensures { result.now ≡ fault_text self.now.line self.now.column self.now.fault }
+    {
         match self.fault {
             Fault::NotNumber if self.line != 1 && self.column == 1 => "not a kind",
             Fault::NotNumber => "not a number",
@@ -69,11 +75,16 @@ impl Unreadable {
 
 // As `line 3, column 2 (holder): not a number`.
 impl fmt::Display for Unreadable {
+    ghost output = { λ unreadable. Some (unreadable_text unreadable) };
+
     fn fmt<W: fmt::Write>(&self, f: &mut fmt::Formatter<W>) -> fmt::Result {
-        write!(f, "line {}, column {}", self.line, self.column)?;
+        let (line, column) = (self.line, self.column);
         match self.column_name() {
-            Some(name) => write!(f, " ({}): {}", name, self.reason()),
-            None => f.write_str(": too many fields"),
+            Some(name) => {
+                let reason = self.reason();
+                write!(f, "line {line}, column {column} ({name}): {reason}")
+            }
+            None => write!(f, "line {line}, column {column}: too many fields"),
         }
     }
 }
