@@ -8,7 +8,7 @@ use native.Mathlib.Omega.{arith}
 use native.Mathlib.Decide.{ℕ_discrete}
 use native.Mathlib.Nat.{le_refl}
 use lib.Dec.{eqb}
-use lib.ListN.{length}
+use lib.ListN.{length, take}
 use borrow.Author.Tests.{eq-eqb, ne_eqb}
 use Rattle.base.specs.Choice.{pick}
 use Rattle.base.specs.Sums.{sum_to}
@@ -26,8 +26,9 @@ use Rattle.balances.specs.Amounts as Amounts
 use Rattle.balances.proofs.ListLaws.{total-last}
 use Rattle.control_room.specs.Trades.{traded_in}
 use Rattle.control_room.specs.Trades as Trades
+use Rattle.control_room.proofs.CutLaws.{bought-of-calls, sold-of-calls}
 use Rattle.year.specs.Year.{zeros, call_at, first_calls, state_after, answers_after}
-use Rattle.year.proofs.YearLaws.{word_of, refusal-read}
+use Rattle.year.proofs.YearLaws.{word_of, answers-length, refusal-read}
 
 added_none : (r : Result) → added r 0 ≡ 0
 added_none r = pick-by (λ x. x ≡ 0) (eqb r.answer.refusal 0) 0 0 (λ t. refl) (λ f. refl)
@@ -165,3 +166,20 @@ module _ (calls s answers : List ℕ) (count : ℕ) (few : count ≤ 16384) (roo
       let all : min count 16384 ≡ count = omega arith in
       ap (λ n. sum_to n (traded_in calls (answers_after calls s answers count) 1 h)) all
       ∙ counts_all (sold_in h) 1 h (sold-traded h) (omega arith) calls s answers count room count (le_refl count)
+
+  -- as the program asks for them: the words of the calls alone, with all answers
+  module _ (words : 6 * count ≤ length calls) where
+    abbrev cut : List ℕ
+    cut = take (6 * count) calls
+
+    abbrev all-answers : List ℕ
+    all-answers = answers_after calls s answers count
+
+    told : 3 * count ≤ length all-answers
+    told = omega (arith, room, answers-length calls s answers count)
+
+    pub printed-bought-is : Trades.bought cut all-answers (Trades.called_count cut all-answers) h ≡ Amounts.bought (first_calls calls count) s h
+    printed-bought-is = bought-of-calls calls all-answers count words told h ∙ bought-is
+
+    pub printed-sold-is : Trades.sold cut all-answers (Trades.called_count cut all-answers) h ≡ Amounts.sold (first_calls calls count) s h
+    printed-sold-is = sold-of-calls calls all-answers count words told h ∙ sold-is

@@ -1,4 +1,6 @@
 // Files by the names that the arguments give.
+ghost use Rattle.std.specs.Prelude.{◌≤◌, IfOk, length};
+
 use super::faults::Failure;
 use input::say;
 use std::rt::{Env, Files};
@@ -9,7 +11,9 @@ pub(super) fn read_argument<'a, R: Env + Files>(
     rt: &R,
     argument: usize,
     buffer: &'a mut [u8],
-) -> Result<&'a [u8], Failure> {
+) -> Result<&'a [u8], Failure>
+    ensures { IfOk result (λ read. length read.now ≤ length buffer.old) }
+{
     let mut room = io::buffer();
     let name = input::argument(rt, argument, &mut room).map_err(Failure::Name)?;
     let count = input::read_file(rt, name, buffer).map_err(|failed| Failure::File(
