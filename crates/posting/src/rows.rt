@@ -25,7 +25,11 @@ pub const RESERVED: usize = 8;
 
 pub const STEP_5_SHARE: usize = 9;
 
-// How many rows there are.
+// How many rows an intertie's line has, how many a holder's, and all of them.
+pub const INTERTIE_ROWS: usize = LOAD_SHARE;
+
+pub const HOLDER_ROWS: usize = ROWS - INTERTIE_ROWS;
+
 pub const ROWS: usize = 10;
 
 // The numbers of a posting.
